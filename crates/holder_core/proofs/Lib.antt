@@ -7,3 +7,4 @@ pub mod PresentFaults
 pub mod OnePresentation
 pub mod PickedNumbers
 pub mod OtherRules
+pub mod SignedLater

@@ -7,7 +7,7 @@ use Rattle.json_form.specs.declared.token.Token.{Token}
 use Rattle.marked_tree.specs.Marked.{Marked}
 use Rattle.marked_tree.specs.Paths.{Path, chosen}
 use Rattle.selection_core.specs.Consent.{RuleAnswers, Allows, AllAllowed, IsRefusedAt}
-use Rattle.holder_core.specs.declared.ask.Ask.{Ask}
+use Rattle.holder_core.specs.Asked.{Asked}
 use Rattle.holder_core.specs.declared.errors.PresentError.{PresentError}
 use Rattle.holder_core.specs.declared.errors.PresentError.TheVariants.{Memory, Token as OnCondition, HasBinding, NoSuchPlace, ConsentRefused, BindingKeyDiffers, SignFailed, TooLong}
 use Rattle.holder_core.specs.Present.{IsAgreed, IsAnswer, IsNoAnswer, IsPresented, IsNotPresented, no_memory, not_read, refused}
@@ -25,14 +25,14 @@ module _ {F G : Type 0} {answers : RuleAnswers F} {rule : F} (others : RuleAnswe
     smaller = λ j there less kept stands. carries there true (h.smaller j there less kept stands);
   }
 
-  agreed : (token : Token) (ask : Ask) (m : Marked) → IsAgreed answers rule token ask m → IsAgreed others other token ask m
-  agreed token ask m h = record { held = h.held; there = h.there; allowed = all_allowed m (chosen m ask.want) h.allowed }
+  agreed : (token : Token) (asked : Asked) (m : Marked) → IsAgreed answers rule token asked m → IsAgreed others other token asked m
+  agreed token asked m h = record { held = h.held; there = h.there; allowed = all_allowed m (chosen m asked.want) h.allowed }
 
-  module _ (token : Token) (ask : Ask) (alg : Text) (good : Meaning) (now : ℕ) where
-    answer : (a : Parts) → IsAnswer answers rule token ask alg good now a → IsAnswer others other token ask alg good now a
+  module _ (token : Token) (asked : Asked) (alg : Text) (good : Meaning) (now : ℕ) where
+    answer : (a : Parts) → IsAnswer answers rule token asked alg good now a → IsAnswer others other token asked alg good now a
     answer a h = record {
       marked = h.marked;
-      agreed = agreed token ask h.marked h.agreed;
+      agreed = agreed token asked h.marked h.agreed;
       key = h.key;
       presents = h.presents;
       hash = h.hash;
@@ -40,29 +40,29 @@ module _ {F G : Type 0} {answers : RuleAnswers F} {rule : F} (others : RuleAnswe
       bound = h.bound;
     }
 
-    refusal : (e : PresentError) → IsNoAnswer answers rule token ask alg good now e → IsNoAnswer others other token ask alg good now e
+    refusal : (e : PresentError) → IsNoAnswer answers rule token asked alg good now e → IsNoAnswer others other token asked alg good now e
     refusal Memory h = h
     refusal HasBinding h = h
     refusal (OnCondition fault) h = h
     refusal (NoSuchPlace k) h = h
-    refusal (ConsentRefused i) h = record { marked = h.marked; held = h.held; there = h.there; refused = refused_at h.marked (chosen h.marked ask.want) i h.refused }
-    refusal BindingKeyDiffers h = record { marked = h.marked; agreed = agreed token ask h.marked h.agreed; binding = h.binding; asked_for = h.asked_for; differs = h.differs }
-    refusal SignFailed h = record { marked = h.marked; agreed = agreed token ask h.marked h.agreed; binding = h.binding; asked_for = h.asked_for; key = h.key }
+    refusal (ConsentRefused i) h = record { marked = h.marked; held = h.held; there = h.there; refused = refused_at h.marked (chosen h.marked asked.want) i h.refused }
+    refusal BindingKeyDiffers h = record { marked = h.marked; agreed = agreed token asked h.marked h.agreed; binding = h.binding; asked_for = h.asked_for; kid = h.kid; named = h.named; differs = h.differs }
+    refusal SignFailed h = record { marked = h.marked; agreed = agreed token asked h.marked h.agreed; binding = h.binding; asked_for = h.asked_for; key = h.key }
     refusal TooLong h = record { answer = h.answer; is_answer = answer h.answer h.is_answer; long = h.long }
 
 -- the fact comes first, and tells the rule
-pub presented_by : {F G : Type 0} {answers : RuleAnswers F} {rule : F} (content : Text) (ask : Ask) (alg : Text) (good : Meaning) (now : ℕ) (r : Result Parts PresentError)
-    → IfOk r (IsPresented answers rule content ask alg good now) → (others : RuleAnswers G) (other : G)
-    → ((at : Path) (b : Bool) → Allows answers rule at b → Allows others other at b) → IfOk r (IsPresented others other content ask alg good now)
-presented_by content ask alg good now (Ok a) h others other carries =
-    record { token = h.token; is_token = h.is_token; is_answer = answer others other carries h.token ask alg good now a h.is_answer }
-presented_by content ask alg good now (Err e) h others other carries = tt
+pub presented_by : {F G : Type 0} {answers : RuleAnswers F} {rule : F} (content : Text) (asked : Asked) (alg : Text) (good : Meaning) (now : ℕ) (r : Result Parts PresentError)
+    → IfOk r (IsPresented answers rule content asked alg good now) → (others : RuleAnswers G) (other : G)
+    → ((at : Path) (b : Bool) → Allows answers rule at b → Allows others other at b) → IfOk r (IsPresented others other content asked alg good now)
+presented_by content asked alg good now (Ok a) h others other carries =
+    record { token = h.token; is_token = h.is_token; is_answer = answer others other carries h.token asked alg good now a h.is_answer }
+presented_by content asked alg good now (Err e) h others other carries = tt
 
-pub not_presented_by : {F G : Type 0} {answers : RuleAnswers F} {rule : F} (content : Text) (ask : Ask) (alg : Text) (good : Meaning) (now : ℕ) (r : Result Parts PresentError)
-    → IfErr r (IsNotPresented answers rule content ask alg good now) → (others : RuleAnswers G) (other : G)
-    → ((at : Path) (b : Bool) → Allows answers rule at b → Allows others other at b) → IfErr r (IsNotPresented others other content ask alg good now)
-not_presented_by content ask alg good now (Ok a) h others other carries = tt
-not_presented_by content ask alg good now (Err e) (no_memory is) others other carries = no_memory is
-not_presented_by content ask alg good now (Err e) (not_read fault is r) others other carries = not_read fault is r
-not_presented_by content ask alg good now (Err e) (refused token is r) others other carries =
-    refused token is (refusal others other carries token ask alg good now e r)
+pub not_presented_by : {F G : Type 0} {answers : RuleAnswers F} {rule : F} (content : Text) (asked : Asked) (alg : Text) (good : Meaning) (now : ℕ) (r : Result Parts PresentError)
+    → IfErr r (IsNotPresented answers rule content asked alg good now) → (others : RuleAnswers G) (other : G)
+    → ((at : Path) (b : Bool) → Allows answers rule at b → Allows others other at b) → IfErr r (IsNotPresented others other content asked alg good now)
+not_presented_by content asked alg good now (Ok a) h others other carries = tt
+not_presented_by content asked alg good now (Err e) (no_memory is) others other carries = no_memory is
+not_presented_by content asked alg good now (Err e) (not_read fault is r) others other carries = not_read fault is r
+not_presented_by content asked alg good now (Err e) (refused token is r) others other carries =
+    refused token is (refusal others other carries token asked alg good now e r)

@@ -1,5 +1,5 @@
 -- From the steps of presenting to what is presented, and why it is not.
-use Rattle.std.proofs.Common.{◌≡◌, ◌≢◌, inl, inr, ℕ, Bool, true, false, List, Option, Some, None, Result, IfErr, IfSome, refl, sym, ap, subst, ◌∙◌}
+use Rattle.std.proofs.Common.{◌≡◌, ◌≢◌, ◌<◌, ◌⊎◌, inl, inr, arith, Ok, Err, OnOk, ℕ, Bool, true, false, List, Option, Some, None, Result, IfErr, IfSome, refl, sym, ap, subst, ◌∙◌}
 use Rattle.std.specs.List.{AllByRecursion}
 use Rattle.std.specs.Option.{option_map, is_some}
 use Rattle.std.specs.Result.{IsErrAnd}
@@ -7,9 +7,13 @@ use Rattle.std.proofs.lemmas.Result.{err_from_is_err_and}
 use Rattle.b64url_text.specs.Base64url.{IsWord}
 use Rattle.claim_tree.specs.Tree.{Text, Tree}
 use Rattle.compact_form.specs.Compact.{AreWords}
-use Rattle.compact_form.specs.Faults.{fault_at}
+use Rattle.compact_form.specs.Condition.{number_of}
+use Rattle.compact_form.specs.Faults.{fault_at, failed_of}
+use Rattle.compact_form.specs.declared.condition.Condition.{Condition}
+use Rattle.compact_form.specs.declared.fault.Place.{Place}
+use Rattle.compact_form.specs.declared.fault.Place.TheVariants.{Nowhere}
 use Rattle.compact_form.specs.Compact as form
-use Rattle.compact_form.specs.Lowest.{IsLowest}
+use Rattle.compact_form.specs.Lowest.{IsLowest, IsNoLater}
 use Rattle.compact_form.specs.Views.{jwt_of}
 use Rattle.compact_form.specs.declared.parts.JwtParts.{JwtParts}
 use Rattle.compact_form.specs.declared.parts.Parts.{Parts}
@@ -25,17 +29,19 @@ use Rattle.marked_tree.specs.Marked.{Marked, strip, prune}
 use Rattle.marked_tree.specs.Numbers.{has}
 use Rattle.selection_core.specs.Consent.{RuleAnswers, AllAllowed, IsRefusedAt}
 use Rattle.compact_form.specs.declared.fault.Fault.{Fault}
-use Rattle.verifier_core.specs.Check.{OnFault, IsUncounted}
+use Rattle.jws_part.specs.Header.{IsHeaderUnreadable, IsHeaderCritical}
+use Rattle.verifier_core.specs.Asking.{IsEarlyOrSigned}
+use Rattle.verifier_core.specs.Check.{OnFault, IsSigned, IsUncounted}
 use Rattle.verifier_core.specs.Verdict.{Rules, TokenFails, HasHash}
 use Rattle.verifier_core.specs.declared.check.VerifyError.{VerifyError}
-use Rattle.holder_core.specs.declared.ask.Ask.{Ask}
-use Rattle.holder_core.specs.declared.ask.BindingAsk.{BindingAsk}
+use Rattle.holder_core.specs.Asked.{Asked, BindingAsked}
 use Rattle.holder_core.specs.declared.errors.PresentError.{PresentError}
 use Rattle.holder_core.specs.declared.errors.PresentError.TheVariants.{Memory, Token as OnCondition, HasBinding, NoSuchPlace, ConsentRefused, BindingKeyDiffers, SignFailed, TooLong}
 use Rattle.holder_core.specs.Unchecked.{unchecked}
-use Rattle.holder_core.specs.Present.{picked, shown_for, held_rules, IsHeld, IsAgreed, NamesKey, IsAnswer, IsNoAnswer}
+use Rattle.holder_core.specs.Present.{picked, shown_for, IsHeld, IsAgreed, NamesKey, IsNoAnswer, IsNotPresented, no_memory, not_read, refused}
 use Rattle.holder_core.specs.PresentCalls.{IsUnchecked, OnTokenFault, PresentFails, of_file, of_token}
-use Rattle.holder_core.specs.PresentSteps.{IsUnchosen, IsChosen, IsOtherKey, IsReady, IsUnready, IsUncheckedOrUnready, IsPresentFinished, IsPresentUnfinished}
+use Rattle.holder_core.specs.PresentSteps.{IsUnread, IsUnchosen, IsChosen, IsOtherKey, IsShown, IsReady, IsUnready, IsUncheckedOrUnready, IsSignedOrEarly}
+use Rattle.holder_core.specs.declared.presenting.Unbound.{Unbound}
 use Rattle.marked_tree.proofs.PrunedSame.{Same, prune_same}
 use Rattle.holder_core.proofs.Picking.{picked_same, picked_words}
 
@@ -49,11 +55,11 @@ fault_told VerifyError.Memory P h = tt
 fault_told (VerifyError.Fault fault) P h = h
 
 -- what refuses the token is handed on
-pub unchecked_handed : {A F : Type 0} (answers : RuleAnswers F) (rule : F) (token : Token) (ask : Ask) (r : Result A PresentError) (v : VerifyError) → IsErrAnd r (λ e. e ≡ unchecked v)
-    → OnFault v (IsLowest (TokenFails token (held_rules ask.keys))) → IfErr r (IsUncheckedOrUnready answers rule token ask)
-unchecked_handed answers rule token ask r v from low =
+pub unchecked_handed : {A F : Type 0} (answers : RuleAnswers F) (rule : F) (token : Token) (asked : Asked) (r : Result A PresentError) (v : VerifyError) → IsErrAnd r (λ e. e ≡ unchecked v)
+    → OnFault v (IsLowest (TokenFails token asked.rules)) → IfErr r (IsUncheckedOrUnready answers rule token asked)
+unchecked_handed answers rule token asked r v from low =
     let is = err_from_is_err_and r from in
-    rw (is.1, is.2) (inl (unchecked_told token (held_rules ask.keys) v low))
+    rw (is.1, is.2) (inl (unchecked_told token asked.rules v low))
 
 module _ {F : Type 0} (answers : RuleAnswers F) (rule : F) (m : Marked) (s t : ℕ → Bool) (same : Same s t) where
   pub allowed_same : AllAllowed answers rule m s → AllAllowed answers rule m t
@@ -78,9 +84,9 @@ words_picked parts answer s words signed disclosures none = record {
   binding = subst (λ o. IfSome o form.HasWords) (sym none) tt;
 }
 
-module _ {F : Type 0} (answers : RuleAnswers F) (rule : F) (token : Token) (ask : Ask) where
-  module _ (marked : Marked) (held : IsHeld token ask marked) where
-    pub unchosen : (e : PresentError) → IsUnchosen answers rule marked ask.want e → IsUnready answers rule token ask e
+module _ {F : Type 0} (answers : RuleAnswers F) (rule : F) (token : Token) (asked : Asked) where
+  module _ (marked : Marked) (held : IsHeld token asked marked) where
+    pub unchosen : (e : PresentError) → IsUnchosen answers rule marked asked.want e → IsUnready answers rule token asked e
     unchosen Memory h = tt
     unchosen (OnCondition fault) h = absurd h
     unchosen HasBinding h = absurd h
@@ -90,14 +96,14 @@ module _ {F : Type 0} (answers : RuleAnswers F) (rule : F) (token : Token) (ask 
     unchosen SignFailed h = absurd h
     unchosen TooLong h = absurd h
 
-    module _ (marks : List ℕ) (is : IsChosen answers rule marked ask.want marks) where
-      agreed : IsAgreed answers rule token ask marked
+    module _ (marks : List ℕ) (is : IsChosen answers rule marked asked.want marks) where
+      agreed : IsAgreed answers rule token asked marked
       agreed = record { held = held; there = is.there; allowed = is.allowed }
 
-      same_shown : strip (prune marked (has marks)) ≡ shown_for marked ask.want
-      same_shown = shown_same marked (has marks) (chosen marked ask.want) is.same
+      same_shown : strip (prune marked (has marks)) ≡ shown_for marked asked.want
+      same_shown = shown_same marked (has marks) (chosen marked asked.want) is.same
 
-      pub other_key : (e : PresentError) → IsOtherKey ask.binding (strip (prune marked (has marks))) e → IsUnready answers rule token ask e
+      pub other_key : (e : PresentError) → IsOtherKey asked.binding (strip (prune marked (has marks))) e → IsUnready answers rule token asked e
       other_key Memory h = tt
       other_key (OnCondition fault) h = absurd h
       other_key HasBinding h = absurd h
@@ -107,26 +113,30 @@ module _ {F : Type 0} (answers : RuleAnswers F) (rule : F) (token : Token) (ask 
         marked = marked;
         agreed = agreed;
         binding = h.0;
-        asked_for = h.1;
-        differs = subst (λ (p : Tree). holder_kid p ≢ Some h.0.kid) same_shown h.2;
+        asked_for = h.2;
+        kid = h.1;
+        named = h.3;
+        differs = subst (λ (p : Tree). holder_kid p ≢ Some h.1) same_shown h.4;
       }
       other_key SignFailed h = absurd h
       other_key TooLong h = absurd h
 
-      pub ready : NamesKey ask.binding (strip (prune marked (has marks))) → (unbound : Parts) → unbound.signed ≡ token.parts.signed → unbound.disclosures ≡ picked (has marks) token.parts.disclosures → unbound.binding ≡ None
-          → IsReady answers rule token ask marked unbound
-      ready key unbound signed disclosures none = record {
+      pub ready : NamesKey asked.binding (strip (prune marked (has marks))) → (unbound : Unbound) → unbound.parts.signed ≡ token.parts.signed
+          → unbound.parts.disclosures ≡ picked (has marks) token.parts.disclosures → unbound.parts.binding ≡ None → IsShown asked.binding (strip (prune marked (has marks))) unbound.payload
+          → IsReady answers rule token asked marked unbound
+      ready key unbound signed disclosures none shown = record {
         agreed = agreed;
-        key = subst (NamesKey ask.binding) same_shown key;
+        key = subst (NamesKey asked.binding) same_shown key;
         presents = record {
           signed = signed;
-          disclosures = disclosures ∙ picked_same (has marks) (chosen marked ask.want) is.same token.parts.disclosures;
+          disclosures = disclosures ∙ picked_same (has marks) (chosen marked asked.want) is.same token.parts.disclosures;
           binding_is = none;
         };
+        shown = subst (λ (p : Tree). IsShown asked.binding p unbound.payload) same_shown shown;
       }
 
   module _ (alg : Text) (good : Meaning) (now : ℕ) where
-    pub unchecked_refused : (e : PresentError) → token.parts.binding ≡ None → IsUnchecked token (held_rules ask.keys) e → IsNoAnswer answers rule token ask alg good now e
+    pub unchecked_refused : (e : PresentError) → token.parts.binding ≡ None → IsUnchecked token asked.rules e → IsNoAnswer answers rule token asked alg good now e
     unchecked_refused Memory none h = tt
     unchecked_refused (OnCondition fault) none h = (none, h)
     unchecked_refused HasBinding none h = absurd h
@@ -136,7 +146,7 @@ module _ {F : Type 0} (answers : RuleAnswers F) (rule : F) (token : Token) (ask 
     unchecked_refused SignFailed none h = absurd h
     unchecked_refused TooLong none h = absurd h
 
-    pub unready_refused : (e : PresentError) → IsUnready answers rule token ask e → IsNoAnswer answers rule token ask alg good now e
+    pub unready_refused : (e : PresentError) → IsUnready answers rule token asked e → IsNoAnswer answers rule token asked alg good now e
     unready_refused Memory h = tt
     unready_refused (OnCondition fault) h = absurd h
     unready_refused HasBinding h = absurd h
@@ -146,45 +156,69 @@ module _ {F : Type 0} (answers : RuleAnswers F) (rule : F) (token : Token) (ask 
     unready_refused SignFailed h = absurd h
     unready_refused TooLong h = absurd h
 
-    pub unpresented_refused : (e : PresentError) → token.parts.binding ≡ None → IsUncheckedOrUnready answers rule token ask e → IsNoAnswer answers rule token ask alg good now e
+    pub unpresented_refused : (e : PresentError) → token.parts.binding ≡ None → IsUncheckedOrUnready answers rule token asked e → IsNoAnswer answers rule token asked alg good now e
     unpresented_refused e none (inl h) = unchecked_refused e none h
     unpresented_refused e none (inr h) = unready_refused e h
 
-    module _ (marked : Marked) (unbound : Parts) (is : IsReady answers rule token ask marked unbound) (hash : HashAlg) (has_hash : HasHash token hash) where
-      pub answered : (answer : Parts) → IsPresentFinished ask.binding alg good hash now unbound answer → IsAnswer answers rule token ask alg good now answer
-      answered answer done = record {
-        marked = marked;
-        agreed = is.agreed;
-        key = is.key;
-        presents = record { signed = done.signed ∙ is.presents.signed; disclosures = done.disclosures ∙ is.presents.disclosures; binding_is = refl };
-        hash = hash;
-        has_hash = has_hash;
-        bound = done.bound;
-      }
+-- a text that is not read as a token without key binding token is not presented
+pub unread_refused : {F : Type 0} (answers : RuleAnswers F) (rule : F) (content : Text) (asked : Asked) (alg : Text) (good : Meaning) (now : ℕ) (e : PresentError) → IsUnread content e
+    → IsNotPresented answers rule content asked alg good now e
+unread_refused answers rule content asked alg good now Memory h = no_memory refl
+unread_refused answers rule content asked alg good now (OnCondition fault) h = not_read fault refl h
+unread_refused answers rule content asked alg good now HasBinding h = refused h.0 h.1 h.2
+unread_refused answers rule content asked alg good now (NoSuchPlace k) h = absurd h
+unread_refused answers rule content asked alg good now (ConsentRefused i) h = absurd h
+unread_refused answers rule content asked alg good now BindingKeyDiffers h = absurd h
+unread_refused answers rule content asked alg good now SignFailed h = absurd h
+unread_refused answers rule content asked alg good now TooLong h = absurd h
 
-      pub unfinished_refused : (e : PresentError) → IsPresentUnfinished ask.binding alg good hash now unbound e → IsNoAnswer answers rule token ask alg good now e
-      unfinished_refused Memory h = tt
-      unfinished_refused (OnCondition fault) h = absurd h
-      unfinished_refused HasBinding h = absurd h
-      unfinished_refused (NoSuchPlace k) h = absurd h
-      unfinished_refused (ConsentRefused i) h = absurd h
-      unfinished_refused BindingKeyDiffers h = absurd h
-      unfinished_refused SignFailed h = record {
-        marked = marked;
-        agreed = is.agreed;
-        binding = h.0;
-        asked_for = h.1;
-        key = subst (λ (b : Option BindingAsk). NamesKey b (shown_for marked ask.want)) h.1 is.key;
-      }
-      unfinished_refused TooLong h = record { answer = h.answer; is_answer = answered h.answer h.finished; long = h.long }
+-- ---- the issuer's signature
+
+-- where it is good, no error says that it is not
+pub signed_or_early : (token : Token) (rules : Rules) → IsSigned token.parts.signed token.outer rules → (e : PresentError) → IsSignedOrEarly token rules e
+signed_or_early token rules signed Memory = tt
+signed_or_early token rules signed (OnCondition fault) = inr signed
+signed_or_early token rules signed HasBinding = signed
+signed_or_early token rules signed (NoSuchPlace k) = signed
+signed_or_early token rules signed (ConsentRefused i) = signed
+signed_or_early token rules signed BindingKeyDiffers = signed
+signed_or_early token rules signed SignFailed = signed
+signed_or_early token rules signed TooLong = signed
+
+pub signed_result : {A : Type 0} (token : Token) (rules : Rules) → IsSigned token.parts.signed token.outer rules → (r : Result A PresentError) → IfErr r (IsSignedOrEarly token rules)
+signed_result token rules signed (Ok a) = tt
+signed_result token rules signed (Err e) = signed_or_early token rules signed e
+
+pub read_or_early : (token : Token) (rules : Rules) (e : VerifyError) → OnFault e (IsEarlyOrSigned token rules) → IsSignedOrEarly token rules (unchecked e)
+read_or_early token rules VerifyError.Memory h = tt
+read_or_early token rules (VerifyError.Fault fault) h = h
+
+pub signed_ok : {A E : Type 0} (P : Type 0) (r : Result A E) → P → OnOk r P
+signed_ok P (Ok a) h = h
+signed_ok P (Err e) h = tt
+
+-- the header is read where the signature is the lowest that fails
+module _ (token : Token) (rules : Rules) (fault : Fault) (l : IsLowest (TokenFails token rules) fault) (at : fault.number ≡ 10) where
+  not_low : (c : Condition) → number_of c < 10 → (place : Place) → TokenFails token rules c place → ⊥
+  not_low c low place h = go (l.lowest c place h)
+    where
+      go : (fault.number < number_of c) ⊎ ((c ≡ failed_of fault) × IsNoLater fault.place place) → ⊥
+      go (inl less) = omega (arith, at, less, low)
+      go (inr same) = let e = ap number_of same.0 in omega (arith, at, low, e, fault.of_condition.1)
+
+  pub header_read : IsHeaderUnreadable token.parts.signed.protected token.outer → ⊥
+  header_read unread = not_low Condition.HeaderUnreadable (omega arith) Nowhere (refl, unread)
+
+  pub header_uncritical : IsHeaderCritical token.parts.signed.protected token.outer → ⊥
+  header_uncritical critical = not_low Condition.HeaderCritical (omega arith) Nowhere (refl, critical)
 
 -- ---- what is looked up
 
 -- nothing for the text where nothing is for the token
-pub text_uncounted : (content : Text) (ask : Ask) (token : Token) → IsToken content token → (old new : ℕ) → IsUncounted (TokenFails token (held_rules ask.keys)) old new → IsUncounted (PresentFails content ask) old new
-text_uncounted content ask token is old new same c place (of_file h) low = absurd (is.passes (fault_at c place) h)
-text_uncounted content ask token is old new same c place (of_token t there h) low =
-    same c place (subst (λ (x : Token). TokenFails x (held_rules ask.keys) c place) (tokens.one content t token there is) h) low
+pub text_uncounted : (content : Text) (asked : Asked) (token : Token) → IsToken content token → (old new : ℕ) → IsUncounted (TokenFails token asked.rules) old new → IsUncounted (PresentFails content asked) old new
+text_uncounted content asked token is old new same c place (of_file h) low = absurd (is.passes (fault_at c place) h)
+text_uncounted content asked token is old new same c place (of_token t there h) low =
+    same c place (subst (λ (x : Token). TokenFails x asked.rules c place) (tokens.one content t token there is) h) low
 
 -- ---- whether there is a key binding token
 

@@ -5,8 +5,9 @@ use Rattle.std.specs.Option.{option_map, is_some}
 use Rattle.std.proofs.lemmas.Bool.Decides.{nat_tests}
 use Rattle.std.proofs.lemmas.Slice.Zip.{AllZip-long}
 use Rattle.claim_tree.specs.Tree.{Tree}
+use Rattle.claim_tree.specs.View.{tree_of}
+use Rattle.claim_tree.specs.declared.tree.Tree as declared
 use Rattle.claim_tree.specs.Lists.{IsLeast, AtNone}
-use Rattle.compact_form.specs.declared.parts.Parts.{Parts}
 use Rattle.json_form.specs.declared.token.Token.{Token}
 use Rattle.marked_tree.specs.Laws.{HasEachMarkOnce}
 use Rattle.marked_tree.specs.Marked.{Marked, marked_leaf, marked_array, marked_object, MarkedElements, no_marked_elements, marked_element, MarkedMembers, no_marked_members, marked_member, remark_elements, remark_members, kept, prune, strip}
@@ -20,11 +21,12 @@ use Rattle.selection_core.specs.ChoiceRefusals.{IsMissing}
 use Rattle.verifier_core.specs.Verdict.{Rules, Gives, IsChecked}
 use Rattle.verifier_core.specs.Verdicts.{IsCheckedAs}
 use Rattle.verifier_core.proofs.ContentFacts.{content_sound, content_readable}
-use Rattle.holder_core.specs.declared.ask.Ask.{Ask}
+use Rattle.holder_core.specs.Asked.{Asked, BindingAsked}
 use Rattle.holder_core.specs.declared.errors.PresentError.{PresentError}
 use Rattle.holder_core.specs.declared.errors.PresentError.TheVariants.{Memory, Token as OnCondition, HasBinding, NoSuchPlace, ConsentRefused, BindingKeyDiffers, SignFailed, TooLong}
-use Rattle.holder_core.specs.Present.{held_rules, IsHeld, NamesKey}
-use Rattle.holder_core.specs.PresentSteps.{IsChosen, IsOtherKey, IsReady, IsUnready, IsWholeReady, IsWholeUnready}
+use Rattle.holder_core.specs.Present.{IsHeld, NamesKey}
+use Rattle.holder_core.specs.PresentSteps.{IsChosen, IsOtherKey, IsShown, IsReady, IsUnready, IsWholeReady, IsWholeUnready}
+use Rattle.holder_core.specs.declared.presenting.Unbound.{Unbound}
 use Rattle.holder_core.proofs.Steps.{unchosen, other_key, ready}
 
 -- ---- a tree without marks
@@ -81,35 +83,36 @@ checked_once token rules marked none checked =
     subst (λ (m : Marked). HasEachMarkOnce m 0) (sym checked.opens.3)
     (subst (HasEachMarkOnce _) few (one_node_holds p g (content_readable token p g has_content) (content_sound token rules p g has_content checked.passes)))
 
-module _ {F : Type 0} (answers : RuleAnswers F) (rule : F) (token : Token) (ask : Ask) (none : length token.parts.disclosures ≡ 0) (unbound : token.parts.binding ≡ None) (payload : Tree) (is : IsCheckedAs token (held_rules ask.keys) payload) where
-  held : IsHeld token ask is.0
+module _ {F : Type 0} (answers : RuleAnswers F) (rule : F) (token : Token) (asked : Asked) (none : length token.parts.disclosures ≡ 0) (unbound : token.parts.binding ≡ None) (payload : Tree) (is : IsCheckedAs token asked.rules payload) where
+  held : IsHeld token asked is.0
   held = record { unbound = unbound; checked = is.1 }
 
   once : HasEachMarkOnce is.0 0
-  once = checked_once token (held_rules ask.keys) is.0 none is.1
+  once = checked_once token asked.rules is.0 none is.1
 
   same_shown : payload ≡ strip (prune is.0 (has []))
   same_shown = is.2 ∙ ap strip (sym (prune_unmarked (has []) is.0 (no_mark is.0 once)))
 
-  nothing : AtNone (IsMissing payload ask.want) → IsChosen answers rule is.0 ask.want []
+  nothing : AtNone (IsMissing payload asked.want) → IsChosen answers rule is.0 asked.want []
   nothing there = record {
-    same = none_chosen is.0 once ask.want;
-    there = subst (λ (t : Tree). AtNone (IsMissing t ask.want)) is.2 there;
-    allowed = λ i at yes stands. (let clash : false ≡ true = none_chosen is.0 once ask.want i ∙ yes in absurd (cc clash));
+    same = none_chosen is.0 once asked.want;
+    there = subst (λ (t : Tree). AtNone (IsMissing t asked.want)) is.2 there;
+    allowed = λ i at yes stands. (let clash : false ≡ true = none_chosen is.0 once asked.want i ∙ yes in absurd (cc clash));
   }
 
-  pub whole_ready : (parts : Parts) → IsWholeReady token ask payload parts → IsReady answers rule token ask is.0 parts
-  whole_ready parts h =
-      ready answers rule token ask is.0 held [] (nothing h.there) (subst (NamesKey ask.binding) same_shown h.key) parts h.presents.signed h.presents.disclosures h.presents.binding_is
+  pub whole_ready : (alone : Unbound) → IsWholeReady token asked payload alone → IsReady answers rule token asked is.0 alone
+  whole_ready alone h =
+      ready answers rule token asked is.0 held [] (nothing h.there) (subst (NamesKey asked.binding) same_shown h.key) alone h.presents.signed h.presents.disclosures h.presents.binding_is
+      (subst (λ (t : Tree). IsShown asked.binding t alone.payload) same_shown h.shown)
 
-  pub whole_unready : (e : PresentError) → IsWholeUnready ask payload e → IsUnready answers rule token ask e
+  pub whole_unready : (e : PresentError) → IsWholeUnready asked payload e → IsUnready answers rule token asked e
   whole_unready Memory h = tt
   whole_unready (OnCondition fault) h = absurd h
   whole_unready HasBinding h = absurd h
-  whole_unready (NoSuchPlace k) h = unchosen answers rule token ask is.0 held (NoSuchPlace k) (subst (λ (t : Tree). IsLeast (IsMissing t ask.want) k) is.2 h)
+  whole_unready (NoSuchPlace k) h = unchosen answers rule token asked is.0 held (NoSuchPlace k) (subst (λ (t : Tree). IsLeast (IsMissing t asked.want) k) is.2 h)
   whole_unready (ConsentRefused i) h = absurd h
   whole_unready BindingKeyDiffers h =
-      other_key answers rule token ask is.0 held [] (nothing h.0) BindingKeyDiffers (subst (λ (t : Tree). IsOtherKey ask.binding t BindingKeyDiffers) same_shown h.1)
+      other_key answers rule token asked is.0 held [] (nothing h.0) BindingKeyDiffers (subst (λ (t : Tree). IsOtherKey asked.binding t BindingKeyDiffers) same_shown h.1)
   whole_unready SignFailed h = absurd h
   whole_unready TooLong h = absurd h
 
@@ -125,12 +128,26 @@ something_found f (Some x) p same e = ap is_some same
 
 -- ---- the key
 
-pub other_named : (ask : Ask) (payload : Tree) → AtNone (IsMissing payload ask.want) → (e : PresentError) → IsOtherKey ask.binding payload e → IsWholeUnready ask payload e
-other_named ask payload there Memory h = tt
-other_named ask payload there (OnCondition fault) h = absurd h
-other_named ask payload there HasBinding h = absurd h
-other_named ask payload there (NoSuchPlace k) h = absurd h
-other_named ask payload there (ConsentRefused i) h = absurd h
-other_named ask payload there BindingKeyDiffers h = (there, h)
-other_named ask payload there SignFailed h = absurd h
-other_named ask payload there TooLong h = absurd h
+-- where nothing is told, no name is
+pub none_told : {X Y : Type 0} (f : X → Y) (o : Option X) (p : Option Y) (y : Y) → option_map f o ≡ p → o ≡ None → p ≡ Some y → ⊥
+none_told f None p y told none same = let both = told ∙ same in cc both
+none_told f (Some x) p y told none same = cc none
+
+pub some_told : {X Y : Type 0} (f : X → Y) (o : Option X) (p : Option Y) (x : X) (y : Y) → option_map f o ≡ p → o ≡ Some x → p ≡ Some y → f x ≡ y
+some_told f o p x y told is same = let both : Some (f x) ≡ Some y = ap (option_map f) (sym is) ∙ (told ∙ same) in cc both
+
+pub other_named : (asked : Asked) (payload : Tree) → AtNone (IsMissing payload asked.want) → (e : PresentError) → IsOtherKey asked.binding payload e → IsWholeUnready asked payload e
+other_named asked payload there Memory h = tt
+other_named asked payload there (OnCondition fault) h = absurd h
+other_named asked payload there HasBinding h = absurd h
+other_named asked payload there (NoSuchPlace k) h = absurd h
+other_named asked payload there (ConsentRefused i) h = absurd h
+other_named asked payload there BindingKeyDiffers h = (there, h)
+other_named asked payload there SignFailed h = absurd h
+other_named asked payload there TooLong h = absurd h
+
+-- ---- what is shown
+
+pub all_shown : (binding : Option BindingAsked) (payload : declared.Tree) → IsShown binding (tree_of payload) (Some payload)
+all_shown None payload = tt
+all_shown (Some ask) payload = refl

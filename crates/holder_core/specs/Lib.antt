@@ -1,6 +1,9 @@
 pub mod Unchecked
+pub mod Asked
+pub mod AskedSeen
 pub mod Present
 pub mod PresentFile
+pub mod ToSign
 pub mod PresentSteps
 pub mod PresentCalls
 pub mod PresentRefusal

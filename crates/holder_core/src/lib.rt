@@ -4,18 +4,24 @@
 //! [`present`] answers it: the disclosures that lead to the wanted places, where the holder consents, with a key
 //! binding token where one is asked for. [`refusal_line`] is the line that tells why it does not. Two of its steps may
 //! be taken apart: [`check_held`] judges a token that is held, and [`picked_parts`] leaves out what is not chosen.
+//!
+//! [`present_unsigned`] answers a [`CallerAsk`] without keys: the caller checks the issuer's signature and makes the
+//! holder's, and [`UnsignedPresentation::signed`] puts it in.
 #![tactic(auto)]
 
 mod ask;
+mod asked;
 mod errors;
 pub mod laws;
 mod present_file;
 mod presenting;
 mod refusal;
+mod signing;
 mod whole;
 
-pub use ask::{Ask, BindingAsk};
+pub use ask::{Ask, BindingAsk, CallerAsk, CallerBinding};
 pub use errors::PresentError;
 pub use present_file::{PresentFile, read_present};
 pub use presenting::{check_held, picked_parts, present};
 pub use refusal::refusal_line;
+pub use signing::{Presentation, UnsignedPresentation, present_unsigned};

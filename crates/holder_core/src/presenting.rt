@@ -1,9 +1,9 @@
 // The call that presents.
-ghost use Rattle.std.specs.Prelude.{◌≡◌, ◌≢◌, ◌≤◌, ◌<◌, ◌-◌, ◌^◌, None, Some, length, IfOk, OnOk, IfErr, IsErrOf};
+ghost use Rattle.std.specs.Prelude.{◌≡◌, ◌≢◌, ◌≤◌, ◌<◌, ◌-◌, ◌^◌, None, length, option_map, IfOk, OnOk, IfErr, IsErrOf};
 ghost use Rattle.sd_outside.specs.Causes.{Rose};
 ghost use Rattle.claim_tree.specs.Tree.{depth as depth_of};
 ghost use Rattle.claim_tree.specs.View.{tree_of};
-ghost use Rattle.compact_form.specs.Compact.{AreWords, HasWords, compact as compact_text, hashed as hashed_of};
+ghost use Rattle.compact_form.specs.Compact.{AreWords, compact as compact_text};
 ghost use Rattle.compact_form.specs.Lowest.{IsLowest};
 ghost use Rattle.sd_outside.specs.Limits.{compact_max, json_depth_max};
 ghost use Rattle.hmac_sign.specs.Agreement.{Agree};
@@ -13,23 +13,26 @@ ghost use Rattle.marked_tree.specs.Choice.{IsUnmixed};
 ghost use Rattle.marked_tree.specs.Marked.{strip, prune as pruned_by};
 ghost use Rattle.marked_tree.specs.Numbers.{has};
 ghost use Rattle.marked_tree.specs.View.{marked_of};
-ghost use Rattle.verifier_core.specs.Verdict.{TokenFails, HasHash, asked};
-ghost use Rattle.verifier_core.specs.Check.{OnFault, IsUnopened, IsContent, IsCounted, IsCountedWithin, IsReadWithin, IsUncounted};
-ghost use Rattle.holder_core.specs.Present.{held_rules, picked, IsHeld, IsBoundBy, IsAnswer, IsNoAnswer, IsPresented, IsNotPresented, NamesKey};
+ghost use Rattle.verifier_core.specs.Verdict.{TokenFails, HasHash, asked as asked_rules};
+ghost use Rattle.verifier_core.specs.Check.{OnFault, IsUnopened, IsContent, IsSigned, IsCounted, IsCountedWithin, IsReadWithin, IsUncounted};
+ghost use Rattle.holder_core.specs.Asked.{held_rules, asked_by};
+ghost use Rattle.holder_core.specs.AskedSeen.{binding_seen};
+ghost use Rattle.holder_core.specs.Present.{picked, IsHeld, IsAnswer, IsNoAnswer, IsPresented, IsNotPresented, NamesKey};
 ghost use Rattle.holder_core.specs.PresentCalls.{IsUnchecked, OnTokenFault, PresentFails};
-ghost use Rattle.holder_core.specs.PresentSteps.{IsUnchosen, IsChosen, IsOtherKey, IsReady, IsUnready, IsPresentUnsigned, IsPresentFinished, IsPresentUnfinished, IsMadeReady, IsUncheckedOrUnready};
+ghost use Rattle.holder_core.specs.PresentSteps.{IsUnread, IsUnchosen, IsChosen, IsOtherKey, IsShown, IsReady, IsUnready, IsMadeReady, IsUncheckedOrUnready, IsSignedOrEarly};
 ghost use Rattle.holder_core.specs.declared.errors.PresentError.{PresentError};
-ghost use Rattle.key_binding.specs.declared.errors.BindError.{BindError};
 
+use crate::asked::{Asked, AskedBinding};
+use crate::signing::{Unsigned, unsigned_parts};
 use crate::whole::wanted_parts;
-use crate::{Ask, BindingAsk, PresentError};
+use crate::{Ask, PresentError};
 use claim_tree::{Path, PathList, Tree};
-use compact_form::{COMPACT_MAX, JwtParts, Parts, hashed_text, is_longer_than};
+use compact_form::Parts;
 use digest_index::Steps;
 use disclosure::HashAlg;
 use hmac_sign::{KeySet, Signer, alg_names};
 use json_form::{Disclosures, TokenError, TokenText, TokenView};
-use key_binding::{BindError, bind, holder_kid};
+use key_binding::holder_kid;
 use marked_tree::{ChosenSet, Marked, into_tree, prune};
 use sd_outside::{NoMemory, TextBox, TextList};
 use selection_core::{AllowError, ChooseError, Consent, allow, choose};
@@ -52,10 +55,10 @@ pub fn present<S: Signer, F: Fn(&Path) -> bool>(
     steps: &mut Steps,
 ) -> Result<Parts, PresentError>
     requires callable { F.IsAlwaysCallable consent.now }
-    ensures presented { IfOk result (IsPresented F.Fn consent.now text.now ask.now (S.alg_name_of signer.old) (S.good signer.old) now) }
+    ensures presented { IfOk result (IsPresented F.Fn consent.now text.now (asked_by ask.now) (S.alg_name_of signer.old) (S.good signer.old) now) }
     ensures words { IfOk result AreWords }
     ensures short { IfOk result (λ answer. length (compact_text answer) ≤ compact_max) }
-    ensures refused { IfErr result (IsNotPresented F.Fn consent.now text.now ask.now (S.alg_name_of signer.old) (S.good signer.old) now) }
+    ensures refused { IfErr result (IsNotPresented F.Fn consent.now text.now (asked_by ask.now) (S.alg_name_of signer.old) (S.good signer.old) now) }
     ensures failed { IsErrOf result PresentError.SignFailed → Rose (S.faults signer.old) (S.faults signer.new) }
 
     // what stays
@@ -67,19 +70,32 @@ pub fn present<S: Signer, F: Fn(&Path) -> bool>(
     // the look-ups
     ensures counted { IfOk result (λ _. (token : SeenToken) × IsToken text.now token × IsCounted token steps.old steps.new) }
     ensures within { IsReadWithin text.now steps.old steps.new }
-    ensures uncounted { IsUncounted (PresentFails text.now ask.now) steps.old steps.new }
+    ensures uncounted { IsUncounted (PresentFails text.now (asked_by ask.now)) steps.old steps.new }
     ensures unopened { (token : SeenToken) → IsToken text.now token → token.parts.binding ≢ None → steps.new ≡ steps.old }
+{
+    let token = match read_unbound(alloc, text) {
+        Ok(token) => token,
+        Err(error) => return Err(error),
+    };
+    present_token(alloc, &token.view(), ask, consent, signer, now, steps)
+}
+
+// The token of a text, which has no key binding token.
+pub(crate) fn read_unbound<'a>(alloc: Global, text: &'a [u8]) -> Result<TokenText<'a>, PresentError>
+    ensures token { IfOk result (IsToken text.now) }
+    ensures words { IfOk result (λ token. AreWords token.parts) }
+    ensures unbound { IfOk result (λ token. token.parts.binding ≡ None) }
+    ensures refused { IfErr result (IsUnread text.now) }
 {
     let token = match TokenText::read(alloc, text) {
         Ok(token) => token,
         Err(TokenError::Memory) => return Err(PresentError::Memory),
         Err(TokenError::Fault(fault)) => return Err(PresentError::Token(fault)),
     };
-    let view = token.view();
-    if view.binding().is_some() {
+    if token.view().binding().is_some() {
         return Err(PresentError::HasBinding);
     }
-    present_token(alloc, &view, ask, consent, signer, now, steps)
+    Ok(token)
 }
 
 // Presents a token that has no key binding token.
@@ -96,10 +112,10 @@ fn present_token<S: Signer, F: Fn(&Path) -> bool>(
     requires words { AreWords token.now.parts }
     requires unbound { token.now.parts.binding ≡ None }
     requires callable { F.IsAlwaysCallable consent.now }
-    ensures answer { IfOk result (IsAnswer F.Fn consent.now token.now ask.now (S.alg_name_of signer.old) (S.good signer.old) now) }
+    ensures answer { IfOk result (IsAnswer F.Fn consent.now token.now (asked_by ask.now) (S.alg_name_of signer.old) (S.good signer.old) now) }
     ensures words { IfOk result AreWords }
     ensures short { IfOk result (λ answer. length (compact_text answer) ≤ compact_max) }
-    ensures refused { IfErr result (IsNoAnswer F.Fn consent.now token.now ask.now (S.alg_name_of signer.old) (S.good signer.old) now) }
+    ensures refused { IfErr result (IsNoAnswer F.Fn consent.now token.now (asked_by ask.now) (S.alg_name_of signer.old) (S.good signer.old) now) }
     ensures failed { IsErrOf result PresentError.SignFailed → Rose (S.faults signer.old) (S.faults signer.new) }
     ensures unasked { ask.now.binding ≡ None → signer.new ≡ signer.old }
     ensures same_good { Agree (S.good signer.new) (S.good signer.old) }
@@ -109,45 +125,78 @@ fn present_token<S: Signer, F: Fn(&Path) -> bool>(
     ensures within { IsCountedWithin token.now steps.old steps.new }
     ensures uncounted { IsUncounted (TokenFails token.now (held_rules ask.now.keys)) steps.old steps.new }
 {
-    let (unbound, hash) = match ready_parts(alloc, token, ask, consent, steps) {
-        Ok(ready) => ready,
-        Err(error) => return Err(error),
+    let algs = match alg_names(alloc) {
+        Ok(algs) => algs,
+        Err(NoMemory) => return Err(PresentError::Memory),
     };
-    finish(alloc, unbound, &ask.binding, hash, signer, now)
+    let asked = Asked::by_keys(ask, &algs);
+    match unsigned_parts(alloc, token, &asked, signer.alg_name(), consent, now, steps) {
+        Ok(Unsigned::Alone(parts)) => Ok(parts),
+        Ok(Unsigned::ToSign(unsigned)) => unsigned.sign(alloc, signer),
+        Err(error) => Err(error),
+    }
+}
+
+// The token with the disclosures that are asked for and no key binding token, and what they show, where one is asked for.
+#[derive(Drop)]
+pub(crate) struct Unbound {
+    pub(crate) parts: Parts,
+    pub(crate) payload: Option<Tree>,
 }
 
 // The token with the disclosures that are asked for, if nothing is refused, and the algorithm of its digests.
-fn ready_parts<F: Fn(&Path) -> bool>(
+pub(crate) fn ready_parts<F: Fn(&Path) -> bool>(
     alloc: Global,
     token: &TokenView<'_>,
-    ask: &Ask,
+    asked: &Asked<'_>,
     consent: &Consent<F>,
     steps: &mut Steps,
-) -> Result<(Parts, HashAlg), PresentError>
+) -> Result<(Unbound, HashAlg), PresentError>
     requires few { length token.now.parts.disclosures < 2 ^ 32 - 1 }
     requires words { AreWords token.now.parts }
     requires unbound { token.now.parts.binding ≡ None }
     requires callable { F.IsAlwaysCallable consent.now }
-    ensures ready { IfOk result (λ r. IsMadeReady F.Fn consent.now token.now ask.now r.0) }
-    ensures words { IfOk result (λ r. AreWords r.0) }
-    ensures none { IfOk result (λ r. r.0.binding ≡ None) }
+    ensures ready { IfOk result (λ r. IsMadeReady F.Fn consent.now token.now asked.now r.0) }
+    ensures words { IfOk result (λ r. AreWords r.0.parts) }
+    ensures none { IfOk result (λ r. r.0.parts.binding ≡ None) }
     ensures hash { IfOk result (λ r. HasHash token.now r.1) }
-    ensures refused { IfErr result (IsUncheckedOrUnready F.Fn consent.now token.now ask.now) }
+    ensures refused { IfErr result (IsUncheckedOrUnready F.Fn consent.now token.now asked.now) }
+    ensures signed { OnOk result (IsSigned token.now.parts.signed token.now.outer asked.now.rules) }
+    ensures early { IfErr result (IsSignedOrEarly token.now asked.now.rules) }
     ensures counted { IfOk result (λ _. IsCounted token.now steps.old steps.new) }
     ensures within { IsCountedWithin token.now steps.old steps.new }
-    ensures uncounted { IsUncounted (TokenFails token.now (held_rules ask.now.keys)) steps.old steps.new }
+    ensures uncounted { IsUncounted (TokenFails token.now asked.now.rules) steps.old steps.new }
 {
-    let content = check_held(alloc, token, &ask.keys)?;
+    let content = read_asked(alloc, token, asked)?;
     let hash = content.hash();
     if token.count() == 0 {
         let payload = content.open_payload(alloc, steps)?;
-        let unbound = wanted_parts(alloc, token, &payload, ask)?;
+        let unbound = wanted_parts(alloc, token, payload, asked)?;
         return Ok((unbound, hash));
     }
     let marked = content.open(alloc, steps)?;
-    match choose_parts(alloc, token, &marked, ask, consent) {
+    match choose_parts(alloc, token, &marked, asked, consent) {
         Ok(unbound) => Ok((unbound, hash)),
         Err(error) => Err(error),
+    }
+}
+
+// The conditions 5 to 13 of a token of which this is asked.
+fn read_asked(
+    alloc: Global,
+    token: &TokenView<'_>,
+    asked: &Asked<'_>,
+) -> Result<Content, PresentError>
+    requires few { length token.now.parts.disclosures < 2 ^ 32 - 1 }
+    ensures content { IfOk result (IsContent token.now asked.now.rules) }
+    ensures refused { IfErr result (IsUnchecked token.now asked.now.rules) }
+    ensures unopened { IfErr result (λ e. OnTokenFault e IsUnopened) }
+    ensures signed { OnOk result (IsSigned token.now.parts.signed token.now.outer asked.now.rules) }
+    ensures early { IfErr result (IsSignedOrEarly token.now asked.now.rules) }
+{
+    match Content::read(alloc, token, &asked.rules) {
+        Ok(content) => Ok(content),
+        Err(error) => Err(PresentError::from(error)),
     }
 }
 
@@ -156,56 +205,27 @@ fn choose_parts<F: Fn(&Path) -> bool>(
     alloc: Global,
     token: &TokenView<'_>,
     marked: &Marked,
-    ask: &Ask,
+    asked: &Asked<'_>,
     consent: &Consent<F>,
-) -> Result<Parts, PresentError>
+) -> Result<Unbound, PresentError>
     requires few { length token.now.parts.disclosures < 2 ^ 32 - 1 }
     requires words { AreWords token.now.parts }
-    requires held { IsHeld token.now ask.now (marked_of marked.now) }
+    requires held { IsHeld token.now asked.now (marked_of marked.now) }
     requires callable { F.IsAlwaysCallable consent.now }
-    ensures ready { IfOk result (IsReady F.Fn consent.now token.now ask.now (marked_of marked.now)) }
-    ensures words { IfOk result AreWords }
-    ensures refused { IfErr result (IsUnready F.Fn consent.now token.now ask.now) }
+    ensures ready { IfOk result (IsReady F.Fn consent.now token.now asked.now (marked_of marked.now)) }
+    ensures words { IfOk result (λ unbound. AreWords unbound.parts) }
+    ensures refused { IfErr result (IsUnready F.Fn consent.now token.now asked.now) }
 {
-    let chosen = match choose_allowed(alloc, marked, &ask.want, consent) {
+    let chosen = match choose_allowed(alloc, marked, asked.want, consent) {
         Ok(chosen) => chosen,
         Err(error) => return Err(error),
     };
-    if let Err(error) = check_key(alloc, &ask.binding, marked, &chosen) {
-        return Err(error);
-    }
-    Ok(picked_parts(alloc, token, &chosen)?)
-}
-
-// The parts with the key binding token that is asked for, unless they are too long.
-fn finish<S: Signer>(
-    alloc: Global,
-    unbound: Parts,
-    binding: &Option<BindingAsk>,
-    hash: HashAlg,
-    signer: &mut S,
-    now: u64,
-) -> Result<Parts, PresentError>
-    requires words { AreWords unbound }
-    requires none { unbound.binding ≡ None }
-    ensures finished { IfOk result (IsPresentFinished binding.now (S.alg_name_of signer.old) (S.good signer.old) hash now unbound) }
-    ensures words { IfOk result AreWords }
-    ensures short { IfOk result (λ answer. length (compact_text answer) ≤ compact_max) }
-    ensures unfinished { IfErr result (IsPresentUnfinished binding.now (S.alg_name_of signer.old) (S.good signer.old) hash now unbound) }
-    ensures failed { IsErrOf result PresentError.SignFailed → Rose (S.faults signer.old) (S.faults signer.new) }
-    ensures unasked { binding.now ≡ None → signer.new ≡ signer.old }
-    ensures same_good { Agree (S.good signer.new) (S.good signer.old) }
-    ensures same_alg { S.alg_name_of signer.new ≡ S.alg_name_of signer.old }
-    ensures later { S.faults signer.old ≤ S.faults signer.new }
-{
-    let parts = match bound_parts(alloc, unbound, binding, hash, signer, now) {
-        Ok(parts) => parts,
+    let payload = match shown_payload(alloc, asked.binding, marked, &chosen) {
+        Ok(payload) => payload,
         Err(error) => return Err(error),
     };
-    if is_longer_than(&parts, COMPACT_MAX) {
-        return Err(PresentError::TooLong);
-    }
-    Ok(parts)
+    let parts = picked_parts(alloc, token, &chosen)?;
+    Ok(Unbound { parts, payload })
 }
 
 // The conditions 5 to 13, but 8, where the token may be signed with these algorithms.
@@ -216,8 +236,8 @@ fn read_signed<'a>(
     algs: &'a TextList,
 ) -> Result<Content, VerifyError>
     requires few { length token.now.parts.disclosures < 2 ^ 32 - 1 }
-    ensures content { IfOk result (IsContent token.now (asked keys.now algs.now None)) }
-    ensures refused { IfErr result (λ e. OnFault e (IsLowest (TokenFails token.now (asked keys.now algs.now None)))) }
+    ensures content { IfOk result (IsContent token.now (asked_rules keys.now algs.now None)) }
+    ensures refused { IfErr result (λ e. OnFault e (IsLowest (TokenFails token.now (asked_rules keys.now algs.now None)))) }
     ensures unopened { IfErr result (λ e. OnFault e IsUnopened) }
 {
     Content::read(alloc, token, &Rules::of_keys(keys, algs, None))
@@ -264,37 +284,47 @@ fn choose_allowed<F: Fn(&Path) -> bool>(
     }
 }
 
-// Whether what is shown names the key of the ask.
-fn check_key(
+// What is shown, where a key binding token is asked for, if it names the key of the ask.
+fn shown_payload(
     alloc: Global,
-    binding: &Option<BindingAsk>,
+    binding: Option<AskedBinding<'_>>,
     marked: &Marked,
     chosen: &ChosenSet,
-) -> Result<(), PresentError>
+) -> Result<Option<Tree>, PresentError>
     requires depth { depth_of (strip (marked_of marked.now)) ≤ json_depth_max }
-    ensures named { OnOk result (NamesKey binding.now (strip (pruned_by (marked_of marked.now) (has chosen.now)))) }
-    ensures refused { IfErr result (IsOtherKey binding.now (strip (pruned_by (marked_of marked.now) (has chosen.now)))) }
+    ensures named { OnOk result (NamesKey (option_map binding_seen binding.entry) (strip (pruned_by (marked_of marked.now) (has chosen.now)))) }
+    ensures shown { IfOk result (IsShown (option_map binding_seen binding.entry) (strip (pruned_by (marked_of marked.now) (has chosen.now)))) }
+    ensures refused { IfErr result (IsOtherKey (option_map binding_seen binding.entry) (strip (pruned_by (marked_of marked.now) (has chosen.now)))) }
 {
     if binding.is_none() {
-        return Ok(());
+        return Ok(None);
     }
     let pruned = prune(alloc, marked, chosen)?;
     let payload = into_tree(alloc, pruned)?;
-    check_named(binding, &payload)
+    match check_named(binding, &payload) {
+        Ok(()) => Ok(Some(payload)),
+        Err(error) => Err(error),
+    }
 }
 
 // Whether the payload names the key of the ask, where a key binding token is asked for.
-pub(crate) fn check_named(binding: &Option<BindingAsk>, payload: &Tree) -> Result<(), PresentError>
-    ensures named { OnOk result (NamesKey binding.now (tree_of payload.now)) }
-    ensures refused { IfErr result (IsOtherKey binding.now (tree_of payload.now)) }
+pub(crate) fn check_named(
+    binding: Option<AskedBinding<'_>>,
+    payload: &Tree,
+) -> Result<(), PresentError>
+    ensures named { OnOk result (NamesKey (option_map binding_seen binding.entry) (tree_of payload.now)) }
+    ensures refused { IfErr result (IsOtherKey (option_map binding_seen binding.entry) (tree_of payload.now)) }
 {
-    let Some(binding) = binding else {
+    let Some(ask) = binding else {
         return Ok(());
     };
-    let Some(kid) = holder_kid(payload) else {
+    let Some(kid) = ask.kid else {
+        return Ok(());
+    };
+    let Some(named) = holder_kid(payload) else {
         return Err(PresentError::BindingKeyDiffers);
     };
-    if kid != binding.kid.as_str() {
+    if named != kid.as_str() {
         return Err(PresentError::BindingKeyDiffers);
     }
     Ok(())
@@ -342,61 +372,4 @@ fn pick(
         number += 1;
     }
     Ok(texts)
-}
-
-// The key binding token that is asked for, over the text of the parts that it is sent with.
-fn binding_of<S: Signer>(
-    alloc: Global,
-    unbound: &Parts,
-    asked: &BindingAsk,
-    hash: HashAlg,
-    signer: &mut S,
-    now: u64,
-) -> Result<JwtParts, BindError>
-    requires words { AreWords unbound.now }
-    ensures bound { IfOk result (IsBoundBy asked.now (S.alg_name_of signer.old) (S.good signer.old) hash (hashed_of unbound.now) now) }
-    ensures words { IfOk result HasWords }
-    ensures failed { IsErrOf result BindError.SignFailed → Rose (S.faults signer.old) (S.faults signer.new) }
-    ensures same_good { Agree (S.good signer.new) (S.good signer.old) }
-    ensures same_alg { S.alg_name_of signer.new ≡ S.alg_name_of signer.old }
-    ensures later { S.faults signer.old ≤ S.faults signer.new }
-{
-    let hashed = hashed_text(alloc, unbound)?;
-    let aud = asked.aud.as_str();
-    let nonce = asked.nonce.as_str();
-    bind(alloc, signer, hash, hashed.as_str(), aud, nonce, now)
-}
-
-// The parts with the key binding token that is asked for, if any.
-fn bound_parts<S: Signer>(
-    alloc: Global,
-    unbound: Parts,
-    binding: &Option<BindingAsk>,
-    hash: HashAlg,
-    signer: &mut S,
-    now: u64,
-) -> Result<Parts, PresentError>
-    requires words { AreWords unbound }
-    requires none { unbound.binding ≡ None }
-    ensures finished { IfOk result (IsPresentFinished binding.now (S.alg_name_of signer.old) (S.good signer.old) hash now unbound) }
-    ensures words { IfOk result AreWords }
-    ensures unsigned { IfErr result (IsPresentUnsigned binding.now) }
-    ensures failed { IsErrOf result PresentError.SignFailed → Rose (S.faults signer.old) (S.faults signer.new) }
-    ensures unasked { binding.now ≡ None → signer.new ≡ signer.old }
-    ensures same_good { Agree (S.good signer.new) (S.good signer.old) }
-    ensures same_alg { S.alg_name_of signer.new ≡ S.alg_name_of signer.old }
-    ensures later { S.faults signer.old ≤ S.faults signer.new }
-{
-    let Some(asked) = binding else {
-        return Ok(unbound);
-    };
-    match binding_of(alloc, &unbound, asked, hash, signer, now) {
-        Ok(token) => Ok(Parts {
-            signed: unbound.signed,
-            disclosures: unbound.disclosures,
-            binding: Some(token),
-        }),
-        Err(BindError::Memory) => Err(PresentError::Memory),
-        Err(BindError::SignFailed) => Err(PresentError::SignFailed),
-    }
 }

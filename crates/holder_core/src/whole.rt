@@ -7,10 +7,10 @@ ghost use Rattle.compact_form.specs.Compact.{AreWords};
 ghost use Rattle.selection_core.specs.ChoiceRefusals.{IsMissing};
 ghost use Rattle.holder_core.specs.PresentSteps.{IsWholeReady, IsWholeUnready};
 
-use crate::presenting::{check_named, picked_parts};
-use crate::{Ask, PresentError};
+use crate::PresentError;
+use crate::asked::Asked;
+use crate::presenting::{Unbound, check_named, picked_parts};
 use claim_tree::{PathList, Tree, find};
-use compact_form::Parts;
 use json_form::TokenView;
 use marked_tree::ChosenSet;
 use std::alloc::Global;
@@ -19,22 +19,26 @@ use std::alloc::Global;
 pub(crate) fn wanted_parts(
     alloc: Global,
     token: &TokenView<'_>,
-    payload: &Tree,
-    ask: &Ask,
-) -> Result<Parts, PresentError>
+    payload: Tree,
+    asked: &Asked<'_>,
+) -> Result<Unbound, PresentError>
     requires few { length token.now.parts.disclosures < 2 ^ 32 - 1 }
     requires words { AreWords token.now.parts }
-    ensures ready { IfOk result (IsWholeReady token.now ask.now (tree_of payload.now)) }
-    ensures words { IfOk result AreWords }
-    ensures refused { IfErr result (IsWholeUnready ask.now (tree_of payload.now)) }
+    ensures ready { IfOk result (IsWholeReady token.now asked.now (tree_of payload)) }
+    ensures words { IfOk result (λ unbound. AreWords unbound.parts) }
+    ensures refused { IfErr result (IsWholeUnready asked.now (tree_of payload)) }
 {
-    if let Some(k) = first_missing(payload, &ask.want) {
+    if let Some(k) = first_missing(&payload, asked.want) {
         return Err(PresentError::NoSuchPlace(k));
     }
-    if let Err(error) = check_named(&ask.binding, payload) {
+    if let Err(error) = check_named(asked.binding, &payload) {
         return Err(error);
     }
-    Ok(picked_parts(alloc, token, &ChosenSet::new(alloc))?)
+    let parts = picked_parts(alloc, token, &ChosenSet::new(alloc))?;
+    Ok(Unbound {
+        parts,
+        payload: Some(payload),
+    })
 }
 
 // The number of the first wanted path that leads nowhere.

@@ -4,7 +4,7 @@ use Rattle.claim_tree.specs.Tree.{Text}
 use Rattle.compact_form.specs.Lowest.{IsLowest}
 use Rattle.verifier_core.specs.Verdict.{TokenFails, asked}
 use Rattle.verifier_core.specs.Check.{OnFault, IsUnopened, IsContent}
-use Rattle.holder_core.specs.Present.{held_rules}
+use Rattle.holder_core.specs.Asked.{held_rules}
 use Rattle.holder_core.proofs.Steps.{unchecked_told, fault_told}
 use Rattle.holder_core.proofs.presenting.check_held.Goals as goal
 

@@ -1,20 +1,31 @@
-use Rattle.std.proofs.Common.{ℕ, List, refl, ap, ◌∙◌}
+use Rattle.std.proofs.Common.{ℕ, List, Option, refl, ap, subst, ◌∙◌}
+use Rattle.claim_tree.specs.Lists.{AtNone}
 use Rattle.claim_tree.specs.View.{tree_of}
 use Rattle.marked_tree.specs.Numbers.{has}
-use Rattle.holder_core.specs.Present.{picked}
-use Rattle.holder_core.proofs.WholeToken.{other_named}
+use Rattle.marked_tree.specs.Paths.{Path}
+use Rattle.selection_core.specs.ChoiceRefusals.{IsMissing}
+use Rattle.holder_core.specs.Asked.{Asked, BindingAsked}
+use Rattle.holder_core.specs.Present.{picked, NamesKey}
+use Rattle.holder_core.specs.PresentSteps.{IsOtherKey}
+use Rattle.holder_core.proofs.WholeToken.{other_named, all_shown}
 use Rattle.holder_core.proofs.whole.wanted_parts.Goals as goal
 
 pub returns-in-Err-clause-refused : goal.returns-in-Err-clause-refused
-returns-in-Err-clause-refused c = other_named c.args.ask.now (tree_of c.args.payload.now) (c.in_default.ensures.there refl) c.in-Err.error c.in-Err.ensures.refused
+returns-in-Err-clause-refused c =
+    let payload = tree_of c.args.payload in
+    let there = subst (λ (want : List Path). AtNone (IsMissing payload want)) (ap (λ (a : Asked). a.want) c.asked.view_is) (c.in_default.ensures.there refl) in
+    other_named c.args.asked.now payload there c.in-Err.error (subst (λ (b : Option BindingAsked). IsOtherKey b payload c.in-Err.error) (ap (λ (a : Asked). a.binding) c.asked.view_is) c.in-Err.ensures.refused)
 
 pub returns-clause-ready : goal.returns-clause-ready
-returns-clause-ready c = record {
-  there = c.in_default.ensures.there refl;
-  key = c.in_default-check_named.ensures.named;
-  presents = record {
-    signed = c.in_ok-picked_parts.ensures.signed;
-    disclosures = c.in_ok-picked_parts.ensures.disclosures ∙ ap (λ (marks : List ℕ). picked (has marks) c.args.token.now.parts.disclosures) c.new.ensures;
-    binding_is = c.in_ok-picked_parts.ensures.unbound;
-  };
-}
+returns-clause-ready c =
+    let payload = tree_of c.args.payload in
+    record {
+      there = subst (λ (want : List Path). AtNone (IsMissing payload want)) (ap (λ (a : Asked). a.want) c.asked.view_is) (c.in_default.ensures.there refl);
+      key = subst (λ (b : Option BindingAsked). NamesKey b payload) (ap (λ (a : Asked). a.binding) c.asked.view_is) c.in_default-check_named.ensures.named;
+      presents = record {
+        signed = c.in_ok-parts.ensures.signed;
+        disclosures = c.in_ok-parts.ensures.disclosures ∙ ap (λ (marks : List ℕ). picked (has marks) c.args.token.now.parts.disclosures) c.new.ensures;
+        binding_is = c.in_ok-parts.ensures.unbound;
+      };
+      shown = all_shown c.args.asked.now.binding c.args.payload;
+    }
