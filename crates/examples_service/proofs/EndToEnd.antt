@@ -14,6 +14,7 @@ use Rattle.verifier_core.specs.Verdict.{Fails, demands_of}
 use Rattle.verifier_core.specs.Verdicts.{IsAcceptedAs}
 use Rattle.verifier_core.specs.declared.policy.Policy.{Policy}
 use Rattle.verifier_core.proofs.OneVerdict.{one_accepted, accepted_not_refused}
+use Rattle.holder_core.specs.Asked.{asked_by}
 use Rattle.holder_core.specs.Present.{IsNotPresented}
 use Rattle.holder_core.specs.declared.ask.Ask.{Ask}
 use Rattle.holder_core.specs.declared.errors.PresentError.{PresentError}
@@ -35,7 +36,7 @@ module _ {F : Type 0} (answers : RuleAnswers F) (rule : F) (law : PresentedOverV
       let over_values = law seed order key issued.parts (by_anyone seed order key issued.parts issued.issued) ask signing policy now later suits short in_range in
       over_values.shown token (subst (λ (x : List ℕ). IsToken x (alone issued.parts)) (sym issued.text_is) over_values.reads)
 
-  pub refuses_nothing : (error : PresentError) → error ≢ Memory → error ≢ SignFailed → IsNotPresented answers rule token ask (codes "HS256") (IsGood (hs256_key signing)) now error → ⊥
+  pub refuses_nothing : (error : PresentError) → error ≢ Memory → error ≢ SignFailed → IsNotPresented answers rule token (asked_by ask) (codes "HS256") (IsGood (hs256_key signing)) now error → ⊥
   refuses_nothing = shown_at.presents
 
   module _ (text : List ℕ) (presented : IsPresentedText answers rule token ask (IsGood (hs256_key signing)) now text) where

@@ -5,6 +5,7 @@ use Rattle.compact_form.specs.Compact.{compact}
 use Rattle.hmac_sign.specs.Hmac.{AlgKey}
 use Rattle.hmac_sign.specs.Signatures.{Meaning}
 use Rattle.selection_core.specs.Consent.{RuleAnswers}
+use Rattle.holder_core.specs.Asked.{asked_by}
 use Rattle.holder_core.specs.Present.{IsPresented}
 use Rattle.holder_core.specs.declared.ask.Ask.{Ask}
 use Rattle.issuer_core.specs.Order.{Order}
@@ -17,5 +18,5 @@ pub record IsIssuedText (seed : List ℕ) (order : Order) (key : AlgKey) (text :
 
 pub record IsPresentedText {F : Type 0} (answers : RuleAnswers F) (rule : F) (token : List ℕ) (ask : Ask) (good : Meaning) (now : ℕ) (text : List ℕ) : Type 0 where
   pub parts : Parts
-  pub presented : IsPresented answers rule token ask (codes "HS256") good now parts
+  pub presented : IsPresented answers rule token (asked_by ask) (codes "HS256") good now parts
   pub text_is : text ≡ compact parts

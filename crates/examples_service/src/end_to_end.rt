@@ -9,6 +9,7 @@ ghost use Rattle.hmac_sign.specs.Algs.{alg_text};
 ghost use Rattle.hmac_sign.specs.Hmac.{hs256_key, IsGood};
 ghost use Rattle.verifier_core.specs.Verdict.{Fails};
 ghost use Rattle.verifier_core.specs.Verdicts.{IsAcceptedAs};
+ghost use Rattle.holder_core.specs.Asked.{asked_by};
 ghost use Rattle.holder_core.specs.Present.{IsNotPresented};
 ghost use Rattle.holder_core.specs.declared.errors.PresentError.{PresentError as Unpresented};
 ghost use Rattle.holder_core.specs.declared.errors.PresentError.TheVariants.{Memory, SignFailed};
@@ -77,7 +78,7 @@ fn presented<F: Fn(&Path) -> bool>(
 ) -> Result<TextBox, NoMemory>
     requires callable { F.IsAlwaysCallable holder.now.consent }
     requires unrefused { (error : Unpresented) → error ≢ Memory → error ≢ SignFailed
-        → IsNotPresented F.Fn holder.now.consent token.now holder.now.ask (codes "HS256") (IsGood (hs256_key key)) now error → ⊥ }
+        → IsNotPresented F.Fn holder.now.consent token.now (asked_by holder.now.ask) (codes "HS256") (IsGood (hs256_key key)) now error → ⊥ }
     ensures { IfOk result (IsPresentedText F.Fn holder.now.consent token.now holder.now.ask (IsGood (hs256_key key)) now) }
 {
     let steps = &mut Steps::new();

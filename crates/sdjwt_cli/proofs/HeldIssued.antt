@@ -32,8 +32,9 @@ use Rattle.issuer_core.proofs.EachTexts.{held_utf8}
 use Rattle.issuer_core.proofs.IssuedContent.{IsTextOf, HasIssued, has_issued, issued_words}
 use Rattle.issuer_core.proofs.IssuedSizes.{issued_nodes, few_short}
 use Rattle.issuer_core.proofs.Judged.{good_order}
+use Rattle.holder_core.specs.Asked.{held_rules, asked_by}
 use Rattle.holder_core.specs.declared.ask.Ask.{Ask}
-use Rattle.holder_core.specs.Present.{held_rules, IsHeld}
+use Rattle.holder_core.specs.Present.{IsHeld}
 use Rattle.sdjwt_cli.specs.Issuing.{IsIssuedBy}
 use Rattle.sdjwt_cli.specs.PresentedValues.{IsIssuedByAnyone}
 use Rattle.cli_parts.specs.Lines.{line}
@@ -116,7 +117,7 @@ module _ (seed : List ℕ) (o : Order) (key : AlgKey) (parts : Parts) (is : IsTo
   pub issued_content : HasContent (alone parts) is.has.payload is.has.given
   issued_content = content o key is.has.payload is.has.given parts (carries_issued seed o key parts is.has)
 
-  pub issued_held : (ask : Ask) → picked_key ask.keys o.kid key.alg ≡ Some key → IsHeld (alone parts) ask (marked_claims o)
+  pub issued_held : (ask : Ask) → picked_key ask.keys o.kid key.alg ≡ Some key → IsHeld (alone parts) (asked_by ask) (marked_claims o)
   issued_held ask finds = record {
     unbound = is.has.written.unbound;
     checked = subst (IsChecked (alone parts) (held_rules ask.keys)) is.has.issued.opens

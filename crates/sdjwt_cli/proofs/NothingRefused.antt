@@ -1,5 +1,5 @@
 -- Presenting refuses nothing on a text that is read as an issued token, where the policy suits.
-use Rattle.std.proofs.Common.{◌≡◌, ◌≢◌, ℕ, ◌<◌, ◌^◌, true, List, length, Some, refl, sym, ap, subst, ◌∙◌, arith, codes}
+use Rattle.std.proofs.Common.{◌≡◌, ◌≢◌, ℕ, ◌<◌, ◌^◌, true, List, length, Option, None, Some, refl, sym, ap, subst, ◌∙◌, arith, codes, option_map}
 use Rattle.claim_tree.specs.Path.{tree_at}
 use Rattle.claim_tree.proofs.Lists.{At-In}
 use Rattle.sd_outside.specs.Limits.{compact_max}
@@ -21,6 +21,7 @@ use Rattle.issuer_core.specs.Digests.{marked_claims}
 use Rattle.issuer_core.specs.Laid.{with_alg}
 use Rattle.issuer_core.specs.Order.{Order}
 use Rattle.compact_form.specs.Faults.{failed_of}
+use Rattle.holder_core.specs.Asked.{BindingAsked, asked_by, binding_asked}
 use Rattle.holder_core.specs.declared.ask.Ask.{Ask}
 use Rattle.holder_core.specs.declared.ask.BindingAsk.{BindingAsk}
 use Rattle.holder_core.specs.declared.errors.PresentError.{PresentError}
@@ -42,38 +43,38 @@ module _ (seed : List ℕ) (o : Order) (key : AlgKey) (parts : Parts) (is : IsTo
   one_token : (token : Token) → IsToken text token → token ≡ alone parts
   one_token token there = tokens.one text token (alone parts) there is_text
 
-  marked_is : (marked : Marked) → IsHeld (alone parts) ask marked → marked ≡ marked_claims o
+  marked_is : (marked : Marked) → IsHeld (alone parts) (asked_by ask) marked → marked ≡ marked_claims o
   marked_is marked held = one_marked seed o key parts is marked held.checked.opens
 
   hash_is : (hash : HashAlg) → HasHash (alone parts) hash → hash ≡ o.hash
   hash_is hash has = one_hash (alone parts) hash o.hash has (with_alg o.hash is.has.payload, is.has.back.body, is.has.hash)
 
   -- what meets the definition of an answer is presented of the issued parts
-  pub answer_presented : (answer : Parts) → IsAnswer answers rule (alone parts) ask (codes "HS256") (IsGood (hs256_key signing)) now answer → IsPresentedOf o ask signing parts now answer
+  pub answer_presented : (answer : Parts) → IsAnswer answers rule (alone parts) (asked_by ask) (codes "HS256") (IsGood (hs256_key signing)) now answer → IsPresentedOf o ask signing parts now answer
   answer_presented answer a =
       let same = marked_is a.marked a.agreed.held in
       record {
         presents = subst (λ (m : Marked). PicksParts parts (chosen m ask.want) answer.binding answer) same a.presents;
-        names = subst (λ (m : Marked). NamesKey ask.binding (strip (prune m (chosen m ask.want)))) same a.key;
-        bound = subst (λ (h : HashAlg). IsBoundAs ask.binding (codes "HS256") (IsGood (hs256_key signing)) h now answer) (hash_is a.hash a.has_hash) a.bound;
+        names = subst (λ (m : Marked). NamesKey (option_map binding_asked ask.binding) (strip (prune m (chosen m ask.want)))) same a.key;
+        bound = subst (λ (h : HashAlg). IsBoundAs (option_map binding_asked ask.binding) (codes "HS256") (IsGood (hs256_key signing)) h now answer) (hash_is a.hash a.has_hash) a.bound;
       }
 
-  pub is_presented_of : (answer : Parts) → IsPresented answers rule text ask (codes "HS256") (IsGood (hs256_key signing)) now answer → IsPresentedOf o ask signing parts now answer
+  pub is_presented_of : (answer : Parts) → IsPresented answers rule text (asked_by ask) (codes "HS256") (IsGood (hs256_key signing)) now answer → IsPresentedOf o ask signing parts now answer
   is_presented_of answer presented =
       answer_presented answer
-      (subst (λ (t : Token). IsAnswer answers rule t ask (codes "HS256") (IsGood (hs256_key signing)) now answer) (one_token presented.token presented.is_token) presented.is_answer)
+      (subst (λ (t : Token). IsAnswer answers rule t (asked_by ask) (codes "HS256") (IsGood (hs256_key signing)) now answer) (one_token presented.token presented.is_token) presented.is_answer)
 
   module _ (policy : Policy) (later : ℕ) (suits : Suits answers rule o key ask signing policy now later) where
-    held : IsHeld (alone parts) ask (marked_claims o)
+    held : IsHeld (alone parts) (asked_by ask) (marked_claims o)
     held = issued_held seed o key parts is ask suits.holder_finds
 
-    stripped : (marked : Marked) → IsHeld (alone parts) ask marked → strip marked ≡ o.payload
+    stripped : (marked : Marked) → IsHeld (alone parts) (asked_by ask) marked → strip marked ≡ o.payload
     stripped marked there = ap strip (marked_is marked there) ∙ mark_strips_holds o.payload o.hide
 
-    not_missing : (marked : Marked) → IsHeld (alone parts) ask marked → (k : ℕ) → IsMissing (strip marked) ask.want k → ⊥
+    not_missing : (marked : Marked) → IsHeld (alone parts) (asked_by ask) marked → (k : ℕ) → IsMissing (strip marked) ask.want k → ⊥
     not_missing marked there k (path, at, none) = suits.there path (At-In ask.want k path at) (ap (λ t. tree_at t path) (sym (stripped marked there)) ∙ none)
 
-    not_refused_at : (marked : Marked) → IsHeld (alone parts) ask marked → (i : ℕ) → IsRefusedAt answers rule marked (chosen marked ask.want) i → ⊥
+    not_refused_at : (marked : Marked) → IsHeld (alone parts) (asked_by ask) marked → (i : ℕ) → IsRefusedAt answers rule marked (chosen marked ask.want) i → ⊥
     not_refused_at marked there i r =
         let same = marked_is marked there in
         let is_chosen = subst (λ (m : Marked). chosen m ask.want i ≡ true) same r.chosen in
@@ -81,31 +82,35 @@ module _ (seed : List ℕ) (o : Order) (key : AlgKey) (parts : Parts) (is : IsTo
         let leads = chosen_leads o.payload o.hide ask.want i r.at is_chosen stands in
         suits.unrefused r.at leads.0 leads.1 r.refused
 
-    kid_differs : (one : BindingAsk) (marked : Marked) → IsHeld (alone parts) ask marked → ask.binding ≡ Some one → holder_kid (strip (prune marked (chosen marked ask.want))) ≢ Some one.kid → ⊥
-    kid_differs one marked there is_asked differs =
+    kid_differs : (binding : Option BindingAsk) → ask.binding ≡ binding → (one : BindingAsked) → option_map binding_asked binding ≡ Some one → (kid : List ℕ) → one.kid ≡ Some kid
+        → (marked : Marked) → IsHeld (alone parts) (asked_by ask) marked → holder_kid (strip (prune marked (chosen marked ask.want))) ≢ Some kid → ⊥
+    kid_differs None binding_is one is_asked kid named marked there differs = cc is_asked
+    kid_differs (Some own) binding_is one is_asked kid named marked there differs =
+        let asked_same : binding_asked own ≡ one = cc is_asked in
+        let kids : Some own.kid ≡ Some kid = ap (λ (x : BindingAsked). x.kid) asked_same ∙ named in
         let same = marked_is marked there in
-        let kept : holder_kid (shown_for (marked_claims o) ask.want) ≡ Some one.kid = holder_kept o is.passes ask.want ∙ suits.named one is_asked in
-        differs (ap (λ (m : Marked). holder_kid (strip (prune m (chosen m ask.want)))) same ∙ kept)
+        let kept : holder_kid (shown_for (marked_claims o) ask.want) ≡ Some own.kid = holder_kept o is.passes ask.want ∙ suits.named own binding_is in
+        differs (ap (λ (m : Marked). holder_kid (strip (prune m (chosen m ask.want)))) same ∙ (kept ∙ kids))
 
-    too_long : (answer : Parts) → IsAnswer answers rule (alone parts) ask (codes "HS256") (IsGood (hs256_key signing)) now answer → compact_max < length (compact answer) → ⊥
+    too_long : (answer : Parts) → IsAnswer answers rule (alone parts) (asked_by ask) (codes "HS256") (IsGood (hs256_key signing)) now answer → compact_max < length (compact answer) → ⊥
     too_long answer a long =
         let of = answer_presented answer a in
         let short = answer_short signing o.hash now in_range ask.binding small parts answer (chosen (marked_claims o) ask.want) of.presents of.bound is.short in
         omega (arith, short, long)
 
-    refuses_nothing : (error : PresentError) → error ≢ Memory → error ≢ SignFailed → IsNoAnswer answers rule (alone parts) ask (codes "HS256") (IsGood (hs256_key signing)) now error → ⊥
+    refuses_nothing : (error : PresentError) → error ≢ Memory → error ≢ SignFailed → IsNoAnswer answers rule (alone parts) (asked_by ask) (codes "HS256") (IsGood (hs256_key signing)) now error → ⊥
     refuses_nothing Memory memory signed h = memory refl
     refuses_nothing SignFailed memory signed h = signed refl
     refuses_nothing HasBinding memory signed h = h is.has.written.unbound
     refuses_nothing (OnCondition fault) memory signed h = held.checked.passes (failed_of fault) fault.place h.1.fails
     refuses_nothing (NoSuchPlace k) memory signed h = not_missing h.marked h.held k h.missing.fails
     refuses_nothing (ConsentRefused i) memory signed h = not_refused_at h.marked h.held i h.refused
-    refuses_nothing BindingKeyDiffers memory signed h = kid_differs h.binding h.marked h.agreed.held h.asked_for h.differs
+    refuses_nothing BindingKeyDiffers memory signed h = kid_differs ask.binding refl h.binding h.asked_for h.kid h.named h.marked h.agreed.held h.differs
     refuses_nothing TooLong memory signed h = too_long h.answer h.is_answer h.long
 
-    pub nothing_refused : (error : PresentError) → error ≢ Memory → error ≢ SignFailed → IsNotPresented answers rule text ask (codes "HS256") (IsGood (hs256_key signing)) now error → ⊥
+    pub nothing_refused : (error : PresentError) → error ≢ Memory → error ≢ SignFailed → IsNotPresented answers rule text (asked_by ask) (codes "HS256") (IsGood (hs256_key signing)) now error → ⊥
     nothing_refused error memory signed (no_memory e) = memory e
     nothing_refused error memory signed (not_read fault e h) = is_text.passes fault h.applies
     nothing_refused error memory signed (refused token there h) =
         refuses_nothing error memory signed
-        (subst (λ (t : Token). IsNoAnswer answers rule t ask (codes "HS256") (IsGood (hs256_key signing)) now error) (one_token token there) h)
+        (subst (λ (t : Token). IsNoAnswer answers rule t (asked_by ask) (codes "HS256") (IsGood (hs256_key signing)) now error) (one_token token there) h)

@@ -3,6 +3,7 @@ use Rattle.std.proofs.Common.{◌≡◌, ℕ, List, ap, ◌∙◌, sym, subst, i
 use Rattle.compact_form.specs.declared.parts.Parts.{Parts}
 use Rattle.compact_form.specs.Compact.{compact}
 use Rattle.hmac_sign.specs.Hmac.{hs256_key, IsGood}
+use Rattle.holder_core.specs.Asked.{asked_by}
 use Rattle.holder_core.specs.declared.errors.PresentError.{PresentError}
 use Rattle.holder_core.specs.declared.errors.PresentError.TheVariants.{Memory, SignFailed}
 use Rattle.holder_core.specs.PresentRefusal.{present_refusal_text}
@@ -26,7 +27,7 @@ printed order token now a b g h =
     let same : g.said ≡ h.said = orders.one_present order g.said h.said g.is_order h.is_order in
     let presented : IsPresentedFor h.said token now g.parts = subst (λ (said : PresentFile). IsPresentedFor said token now g.parts) same g.presented in
     let key = signing_key h.said.key in
-    let one = one_presented never_rule h.said.never (never_decided h.said.never) token h.said.ask (codes "HS256") (IsGood (hs256_key key)) (one_signature key) now g.parts h.parts presented h.presented in
+    let one = one_presented never_rule h.said.never (never_decided h.said.never) token (asked_by h.said.ask) (codes "HS256") (IsGood (hs256_key key)) (one_signature key) now g.parts h.parts presented h.presented in
     g.line_is ∙ (ap (λ (parts : Parts). line (compact parts)) one ∙ sym h.line_is)
 
 refused : (order token : List ℕ) (now : ℕ) (a b : List ℕ) → DoesNotPresent order token now a → DoesNotPresent order token now b → a ≡ b
@@ -34,11 +35,11 @@ refused order token now a b g h =
     let same : g.said ≡ h.said = orders.one_present order g.said h.said g.is_order h.is_order in
     let applies : IsNotPresentedFor h.said token now g.error = subst (λ (said : PresentFile). IsNotPresentedFor said token now g.error) same g.refused in
     let key = signing_key h.said.key in
-    let one = one_cause never_rule h.said.never (never_decided h.said.never) token h.said.ask (codes "HS256") (IsGood (hs256_key key)) (one_signature key) now g.error h.error g.memory g.signed h.memory h.signed applies h.refused in
+    let one = one_cause never_rule h.said.never (never_decided h.said.never) token (asked_by h.said.ask) (codes "HS256") (IsGood (hs256_key key)) (one_signature key) now g.error h.error g.memory g.signed h.memory h.signed applies h.refused in
     g.line_is ∙ (ap (λ (e : PresentError). line (present_refusal_text e)) one ∙ sym h.line_is)
 
 printed_not_refused : (order token : List ℕ) (now : ℕ) (a b : List ℕ) → Presents order token now a → DoesNotPresent order token now b → ⊥
-printed_not_refused order token now a b g h = neither (presented_not_refused never_rule g.said.never (never_decided g.said.never) token g.said.ask (codes "HS256") (IsGood (hs256_key key)) (one_signature key) now g.parts h.error g.presented g.short applies)
+printed_not_refused order token now a b g h = neither (presented_not_refused never_rule g.said.never (never_decided g.said.never) token (asked_by g.said.ask) (codes "HS256") (IsGood (hs256_key key)) (one_signature key) now g.parts h.error g.presented g.short applies)
   where
     key : List ℕ
     key = signing_key g.said.key

@@ -47,6 +47,7 @@ use Rattle.issuer_core.specs.Seed.{maker_of}
 use Rattle.issuer_core.specs.Written.{header_of}
 use Rattle.issuer_core.proofs.IssuedContent.{IsTextOf}
 use Rattle.issuer_core.proofs.IssuedShown.{issued_is_shown_holds}
+use Rattle.holder_core.specs.Asked.{binding_asked}
 use Rattle.holder_core.specs.declared.ask.Ask.{Ask}
 use Rattle.holder_core.specs.declared.ask.BindingAsk.{BindingAsk}
 use Rattle.holder_core.specs.Present.{shown_for, picked, PicksParts, NamesKey, IsBoundBy, IsBoundWith, IsBoundAs}
@@ -63,8 +64,8 @@ use Rattle.sdjwt_cli.proofs.PresentedShort.{answer_words, answer_few, answer_sho
 -- the parts are what a holder presents of the issued ones, at a moment
 pub record IsPresentedOf (o : Order) (ask : Ask) (signing : List ℕ) (parts : Parts) (now : ℕ) (answer : Parts) : Type 0 where
   pub presents : PicksParts parts (chosen (marked_claims o) ask.want) answer.binding answer
-  pub names : NamesKey ask.binding (shown_for (marked_claims o) ask.want)
-  pub bound : IsBoundAs ask.binding (codes "HS256") (IsGood (hs256_key signing)) o.hash now answer
+  pub names : NamesKey (option_map binding_asked ask.binding) (shown_for (marked_claims o) ask.want)
+  pub bound : IsBoundAs (option_map binding_asked ask.binding) (codes "HS256") (IsGood (hs256_key signing)) o.hash now answer
 
 module _ (seed : List ℕ) (o : Order) (key : AlgKey) (parts : Parts) (is : IsTokenOf seed o key parts)
     (ask : Ask) (signing : List ℕ) (small : AreShort ask.binding) (now : ℕ) (in_range : now < 2 ^ 64) (answer : Parts) (presented : IsPresentedOf o ask signing parts now answer) where
@@ -133,23 +134,23 @@ module _ (seed : List ℕ) (o : Order) (key : AlgKey) (parts : Parts) (is : IsTo
     one_answer token there = tokens.one text token (alone answer) there is_text
 
     -- a key binding token that the policy asks for is there
-    not_missing : (asked : Option BindingAsk) (binding : Option JwtParts) → IsBoundWith asked (codes "HS256") (IsGood (hs256_key signing)) o.hash (hashed answer) now binding → (one : BindingAsk) → asked ≡ Some one → binding ≡ None → ⊥
+    not_missing : (asked : Option BindingAsk) (binding : Option JwtParts) → IsBoundWith (option_map binding_asked asked) (codes "HS256") (IsGood (hs256_key signing)) o.hash (hashed answer) now binding → (one : BindingAsk) → asked ≡ Some one → binding ≡ None → ⊥
     not_missing None binding bound one e none = cc e
     not_missing (Some a) None bound one e none = bound
     not_missing (Some a) (Some token) bound one e none = cc none
 
     -- and it is the one that the holder made
-    made_binding : (asked : Option BindingAsk) (binding : Option JwtParts) (one : BindingAsk) (token : JwtParts) → IsBoundWith asked (codes "HS256") (IsGood (hs256_key signing)) o.hash (hashed answer) now binding → asked ≡ Some one → binding ≡ Some token
-        → IsBoundBy one (codes "HS256") (IsGood (hs256_key signing)) o.hash (hashed answer) now token
+    made_binding : (asked : Option BindingAsk) (binding : Option JwtParts) (one : BindingAsk) (token : JwtParts) → IsBoundWith (option_map binding_asked asked) (codes "HS256") (IsGood (hs256_key signing)) o.hash (hashed answer) now binding → asked ≡ Some one → binding ≡ Some token
+        → IsBoundBy (binding_asked one) (codes "HS256") (IsGood (hs256_key signing)) o.hash (hashed answer) now token
     made_binding None binding one token bound e f = cc e
     made_binding (Some a) None one token bound e f = absurd bound
     made_binding (Some a) (Some t) one token bound e f =
         let asks : a ≡ one = cc e in
         let tokens_same : t ≡ token = cc f in
-        subst (λ (x : BindingAsk). IsBoundBy x (codes "HS256") (IsGood (hs256_key signing)) o.hash (hashed answer) now token) asks
-        (subst (λ (x : JwtParts). IsBoundBy a (codes "HS256") (IsGood (hs256_key signing)) o.hash (hashed answer) now x) tokens_same bound)
+        subst (λ (x : BindingAsk). IsBoundBy (binding_asked x) (codes "HS256") (IsGood (hs256_key signing)) o.hash (hashed answer) now token) asks
+        (subst (λ (x : JwtParts). IsBoundBy (binding_asked a) (codes "HS256") (IsGood (hs256_key signing)) o.hash (hashed answer) now x) tokens_same bound)
 
-    names_ask : (asked : Option BindingAsk) (one : BindingAsk) → NamesKey asked (shown_for (marked_claims o) ask.want) → asked ≡ Some one → holder_kid (shown_for (marked_claims o) ask.want) ≡ Some one.kid
+    names_ask : (asked : Option BindingAsk) (one : BindingAsk) → NamesKey (option_map binding_asked asked) (shown_for (marked_claims o) ask.want) → asked ≡ Some one → holder_kid (shown_for (marked_claims o) ask.want) ≡ Some one.kid
     names_ask None one names e = cc e
     names_ask (Some a) one names e = let same : a ≡ one = cc e in subst (λ (x : BindingAsk). holder_kid (shown_for (marked_claims o) ask.want) ≡ Some x.kid) same names
 

@@ -1,5 +1,5 @@
 -- What is presented of an issued token is no longer than a compact text may be.
-use Rattle.std.proofs.Common.{◌≡◌, ℕ, suc, ◌+◌, ◌<◌, ◌≤◌, ◌^◌, List, [], ◌∷◌, ◌++◌, length, Bool, true, false, Option, None, Some, IfSome, codes, sym, ap, subst, arith}
+use Rattle.std.proofs.Common.{◌≡◌, ℕ, suc, ◌+◌, ◌<◌, ◌≤◌, ◌^◌, List, [], ◌∷◌, ◌++◌, length, Bool, true, false, Option, None, Some, IfSome, codes, sym, ap, subst, arith, option_map}
 use Rattle.std.specs.Prelude.{if◌then◌else◌}
 use Rattle.std.specs.List.{AllByRecursion}
 use Rattle.std.proofs.lemmas.List.{length-append}
@@ -16,6 +16,7 @@ use Rattle.hmac_sign.proofs.Macs.{length-mac}
 use Rattle.jws_part.specs.Header.{header_members}
 use Rattle.key_binding.specs.Binding.{IsBinding, binding_header, claim_members, claims_for}
 use Rattle.key_binding.proofs.Bindings.{object_word, binding_short}
+use Rattle.holder_core.specs.Asked.{binding_asked}
 use Rattle.holder_core.specs.declared.ask.BindingAsk.{BindingAsk}
 use Rattle.holder_core.specs.Present.{picked, PicksParts, IsBoundWith, IsBoundAs}
 use Rattle.holder_core.proofs.Picking.{picked_words}
@@ -51,12 +52,12 @@ binding_words key hash text aud nonce now token is = record {
 }
 
 module _ (key : List ℕ) (hash : HashAlg) (text : Text) (now : ℕ) (in_range : now < 2 ^ 64) where
-  pub ending_words : (asked : Option BindingAsk) (binding : Option JwtParts) → IsBoundWith asked (codes "HS256") (IsGood (hs256_key key)) hash text now binding → IfSome binding HasWords
+  pub ending_words : (asked : Option BindingAsk) (binding : Option JwtParts) → IsBoundWith (option_map binding_asked asked) (codes "HS256") (IsGood (hs256_key key)) hash text now binding → IfSome binding HasWords
   ending_words None binding is = subst (λ b. IfSome b HasWords) (sym is) tt
   ending_words (Some ask) None is = absurd is
   ending_words (Some ask) (Some token) is = binding_words key hash text ask.aud ask.nonce now token is.is_binding
 
-  pub ending_short : (asked : Option BindingAsk) (binding : Option JwtParts) → AreShort asked → IsBoundWith asked (codes "HS256") (IsGood (hs256_key key)) hash text now binding → length (ending binding) < 5000
+  pub ending_short : (asked : Option BindingAsk) (binding : Option JwtParts) → AreShort asked → IsBoundWith (option_map binding_asked asked) (codes "HS256") (IsGood (hs256_key key)) hash text now binding → length (ending binding) < 5000
   ending_short None binding small is = omega (arith, ap (λ b. length (ending b)) is)
   ending_short (Some ask) None small is = absurd is
   ending_short (Some ask) (Some token) small is = binding_short key hash text ask.aud ask.nonce now token small.0 small.1 in_range is.is_binding
@@ -64,7 +65,7 @@ module _ (key : List ℕ) (hash : HashAlg) (text : Text) (now : ℕ) (in_range :
 -- ---- what is presented
 
 module _ (key : List ℕ) (hash : HashAlg) (now : ℕ) (in_range : now < 2 ^ 64) (asked : Option BindingAsk) (small : AreShort asked) (parts answer : Parts) (s : ℕ → Bool)
-    (presents : PicksParts parts s answer.binding answer) (bound : IsBoundAs asked (codes "HS256") (IsGood (hs256_key key)) hash now answer) where
+    (presents : PicksParts parts s answer.binding answer) (bound : IsBoundAs (option_map binding_asked asked) (codes "HS256") (IsGood (hs256_key key)) hash now answer) where
   pub answer_words : AreWords parts → AreWords answer
   answer_words words = record {
     signed = subst HasWords (sym presents.signed) words.signed;

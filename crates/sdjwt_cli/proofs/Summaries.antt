@@ -30,6 +30,7 @@ use Rattle.issuer_core.specs.Digests.{marked_claims, hidden_of}
 use Rattle.issuer_core.specs.Seed.{maker_of}
 use Rattle.issuer_core.proofs.IssuedContent.{IsTextOf}
 use Rattle.issuer_core.proofs.ReservedPlaces.{held_short}
+use Rattle.holder_core.specs.Asked.{asked_by}
 use Rattle.holder_core.specs.declared.errors.PresentError.{PresentError}
 use Rattle.holder_core.specs.declared.errors.PresentError.TheVariants.{Memory, SignFailed}
 use Rattle.holder_core.specs.Present.{picked, IsNotPresented}
@@ -65,7 +66,7 @@ module _ (n : ℕ) (issued : Parts) (is_issued : IsIssuedBy generated_seed (gene
   here : IsShownAt never_rule [] (compact issued) (generated_ask n) generated_key.block generated_policy 0 0 claims
   here = through.shown (compact issued) through.reads
 
-  pub nothing_refused : (error : PresentError) → error ≢ Memory → error ≢ SignFailed → IsNotPresented never_rule [] (compact issued) (generated_ask n) (codes "HS256") (IsGood generated_key) 0 error → ⊥
+  pub nothing_refused : (error : PresentError) → error ≢ Memory → error ≢ SignFailed → IsNotPresented never_rule [] (compact issued) (asked_by (generated_ask n)) (codes "HS256") (IsGood generated_key) 0 error → ⊥
   nothing_refused = here.presents
 
   is : IsTokenOf generated_seed (generated n) generated_key issued

@@ -13,6 +13,7 @@ use Rattle.issuer_core.specs.RefusalLine.{issue_refusal_text}
 use Rattle.issuer_core.specs.Seed.{maker_of}
 use Rattle.issuer_core.proofs.OneToken.{one_token, issued_not_refused}
 use Rattle.issuer_core.proofs.OneRefusal.{one_refusal}
+use Rattle.holder_core.specs.Asked.{asked_by}
 use Rattle.holder_core.specs.Present.{IsPresented}
 use Rattle.holder_core.proofs.OnePresentation.{HasOneSignature, one_presented}
 use Rattle.cli_parts.specs.Replies.{Reply}
@@ -32,8 +33,8 @@ module _ (n : ℕ) where
   same_presented : (a b : List ℕ) (g : Summarizes n a) (h : Summarizes n b) → g.presented ≡ h.presented
   same_presented a b g h =
       let issued : g.issued ≡ h.issued = one_token (maker_of generated_seed) (generated n) generated_key g.issued h.issued g.shown.is_issued.laid h.shown.is_issued.laid in
-      let presented = subst (λ (parts : Parts). IsPresented never_rule [] (compact parts) (generated_ask n) (codes "HS256") (IsGood generated_key) 0 g.presented) issued g.shown.is_presented in
-      one_presented never_rule [] (never_decided []) (compact h.issued) (generated_ask n) (codes "HS256") (IsGood generated_key) (one_signature generated_key) 0 g.presented h.presented presented h.shown.is_presented
+      let presented = subst (λ (parts : Parts). IsPresented never_rule [] (compact parts) (asked_by (generated_ask n)) (codes "HS256") (IsGood generated_key) 0 g.presented) issued g.shown.is_presented in
+      one_presented never_rule [] (never_decided []) (compact h.issued) (asked_by (generated_ask n)) (codes "HS256") (IsGood generated_key) (one_signature generated_key) 0 g.presented h.presented presented h.shown.is_presented
 
   summarized : (a b : List ℕ) → Summarizes n a → Summarizes n b → a ≡ b
   summarized a b g h =

@@ -16,6 +16,7 @@ use Rattle.issuer_core.specs.Order.{Order}
 use Rattle.issuer_core.specs.OrderRefusals.{AppliesToOrder}
 use Rattle.issuer_core.specs.Seed.{maker_of}
 use Rattle.issuer_core.specs.Written.{IsIssued}
+use Rattle.holder_core.specs.Asked.{asked_by}
 use Rattle.holder_core.specs.Present.{IsPresented, IsNotPresented}
 use Rattle.holder_core.specs.declared.ask.Ask.{Ask}
 use Rattle.holder_core.specs.declared.errors.PresentError.{PresentError}
@@ -32,8 +33,8 @@ pub record IsAcceptedWith (answer : Parts) (policy : Policy) (verified : ℕ) (c
 
 -- of a text that is read as the token nothing is refused that is asked for, and whatever is presented is accepted with these claims
 pub record IsShownAt {F : Type 0} (answers : RuleAnswers F) (rule : F) (token : List ℕ) (ask : Ask) (signing : List ℕ) (policy : Policy) (presented verified : ℕ) (claims : Tree) : Type 0 where
-  pub presents : (error : PresentError) → error ≢ Memory → error ≢ SignFailed → IsNotPresented answers rule token ask (codes "HS256") (IsGood (hs256_key signing)) presented error → ⊥
-  pub verifies : (answer : Parts) → IsPresented answers rule token ask (codes "HS256") (IsGood (hs256_key signing)) presented answer → IsAcceptedWith answer policy verified claims
+  pub presents : (error : PresentError) → error ≢ Memory → error ≢ SignFailed → IsNotPresented answers rule token (asked_by ask) (codes "HS256") (IsGood (hs256_key signing)) presented error → ⊥
+  pub verifies : (answer : Parts) → IsPresented answers rule token (asked_by ask) (codes "HS256") (IsGood (hs256_key signing)) presented answer → IsAcceptedWith answer policy verified claims
 
 -- the compact text of the parts is read as them, and so it is of each text that is
 pub record IsShownOf {F : Type 0} (answers : RuleAnswers F) (rule : F) (parts : Parts) (ask : Ask) (signing : List ℕ) (policy : Policy) (presented verified : ℕ) (claims : Tree) : Type 0 where

@@ -5,6 +5,7 @@ use Rattle.compact_form.specs.declared.parts.Parts.{Parts}
 use Rattle.compact_form.specs.Compact.{compact}
 use Rattle.hmac_sign.specs.declared.alg.Alg.{Alg}
 use Rattle.hmac_sign.specs.Hmac.{key_block, hs256_key, IsGood}
+use Rattle.holder_core.specs.Asked.{asked_by}
 use Rattle.holder_core.specs.declared.errors.PresentError.{PresentError}
 use Rattle.holder_core.specs.declared.errors.PresentError.TheVariants.{Memory, SignFailed}
 use Rattle.holder_core.specs.declared.present_file.PresentFile.{PresentFile}
@@ -21,11 +22,11 @@ signing_key (Some key) = key
 
 -- what is presented of the token for what an order says
 abbrev pub IsPresentedFor : PresentFile → List ℕ → ℕ → Parts → Type 0
-IsPresentedFor said token_file now parts = IsPresented never_rule said.never token_file said.ask (codes "HS256") (IsGood (hs256_key (signing_key said.key))) now parts
+IsPresentedFor said token_file now parts = IsPresented never_rule said.never token_file (asked_by said.ask) (codes "HS256") (IsGood (hs256_key (signing_key said.key))) now parts
 
 -- why nothing is presented
 abbrev pub IsNotPresentedFor : PresentFile → List ℕ → ℕ → PresentError → Type 0
-IsNotPresentedFor said token_file now error = IsNotPresented never_rule said.never token_file said.ask (codes "HS256") (IsGood (hs256_key (signing_key said.key))) now error
+IsNotPresentedFor said token_file now error = IsNotPresented never_rule said.never token_file (asked_by said.ask) (codes "HS256") (IsGood (hs256_key (signing_key said.key))) now error
 
 -- the token is presented for the order, and this is the line of its compact text
 pub record Presents (order_file token_file : List ℕ) (now : ℕ) (answer : List ℕ) : Type 0 where

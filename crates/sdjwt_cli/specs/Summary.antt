@@ -14,6 +14,7 @@ use Rattle.marked_tree.specs.Marked.{Marked, strip}
 use Rattle.marked_tree.specs.Paths.{same_path, chosen}
 use Rattle.verifier_core.specs.Verdict.{HasContent, IsAccepted}
 use Rattle.issuer_core.specs.Digests.{marked_claims, hidden_of}
+use Rattle.holder_core.specs.Asked.{asked_by}
 use Rattle.holder_core.specs.Present.{IsPresented}
 use Rattle.sdjwt_cli.specs.Generated.{generated, generated_seed, generated_key, generated_ask, generated_policy}
 use Rattle.sdjwt_cli.specs.Issuing.{IsIssuedBy, TellsRefusal}
@@ -57,7 +58,7 @@ summary_lines hidden presented digests bytes =
 -- are wanted, all of it at the moment 0
 pub record IsShownThrough (n : ℕ) (issued presented : Parts) : Type 0 where
   pub is_issued : IsIssuedBy generated_seed (generated n) generated_key issued
-  pub is_presented : IsPresented never_rule [] (compact issued) (generated_ask n) (codes "HS256") (IsGood generated_key) 0 presented
+  pub is_presented : IsPresented never_rule [] (compact issued) (asked_by (generated_ask n)) (codes "HS256") (IsGood generated_key) 0 presented
   pub marked : Marked
   pub is_accepted : IsAccepted (compact presented) generated_policy 0 marked
   pub claims_are : strip marked ≡ shown_claims n

@@ -6,6 +6,7 @@ use Rattle.claim_tree.specs.declared.tree.Tree as code
 use Rattle.compact_form.specs.declared.parts.Parts.{Parts}
 use Rattle.compact_form.specs.Compact.{compact}
 use Rattle.hmac_sign.specs.Hmac.{IsGood}
+use Rattle.holder_core.specs.Asked.{asked_by}
 use Rattle.holder_core.specs.Present.{IsPresented}
 use Rattle.verifier_core.specs.Check.{IsCounted}
 use Rattle.verifier_core.specs.Verdicts.{IsAcceptedAs}
@@ -16,7 +17,7 @@ use Rattle.sdjwt_cli.specs.PresentedValues.{IsAcceptedWith}
 
 -- what is presented of the issued parts
 abbrev pub IsPresentedOf : ℕ → Parts → Parts → Type 0
-IsPresentedOf n issued presented = IsPresented never_rule [] (compact issued) (generated_ask n) (codes "HS256") (IsGood generated_key) 0 presented
+IsPresentedOf n issued presented = IsPresented never_rule [] (compact issued) (asked_by (generated_ask n)) (codes "HS256") (IsGood generated_key) 0 presented
 
 -- the parts are accepted with some claims
 abbrev pub IsAcceptable : Parts → Type 0

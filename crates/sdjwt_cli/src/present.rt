@@ -3,6 +3,7 @@ ghost use Rattle.std.specs.Prelude.{◌≡◌, ◌≢◌, ◌≤◌, ℕ, List, 
 ghost use Rattle.compact_form.specs.Compact.{AreWords, compact};
 ghost use Rattle.sd_outside.specs.Limits.{compact_max};
 ghost use Rattle.hmac_sign.specs.Hmac.{IsGood, hs256_key};
+ghost use Rattle.holder_core.specs.Asked.{asked_by};
 ghost use Rattle.holder_core.specs.Present.{IsPresented, IsNotPresented};
 ghost use Rattle.holder_core.specs.PresentFile.{IsPresentFileRefused, IsPresentFile};
 ghost use Rattle.holder_core.specs.declared.errors.PresentError.{PresentError};
@@ -44,10 +45,10 @@ pub(crate) fn present_parts(
     key: &mut Hs256Key,
     now: u64,
 ) -> Result<Parts, PresentError>
-    ensures presented { IfOk result (IsPresented never_rule never token_file.now ask.now (codes "HS256") (IsGood (hs256_key key.old)) now) }
+    ensures presented { IfOk result (IsPresented never_rule never token_file.now (asked_by ask.now) (codes "HS256") (IsGood (hs256_key key.old)) now) }
     ensures words { IfOk result AreWords }
     ensures short { IfOk result (λ parts. length (compact parts) ≤ compact_max) }
-    ensures refused { IfErr result (IsNotPresented never_rule never token_file.now ask.now (codes "HS256") (IsGood (hs256_key key.old)) now) }
+    ensures refused { IfErr result (IsNotPresented never_rule never token_file.now (asked_by ask.now) (codes "HS256") (IsGood (hs256_key key.old)) now) }
     ensures signed { IfErr result (λ error. error ≢ PresentError.SignFailed) }
 {
     let never = NeverPlaces::of(never)?;

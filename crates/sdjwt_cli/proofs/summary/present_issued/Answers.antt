@@ -1,6 +1,7 @@
 use Rattle.std.proofs.Common.{◌≡◌, ◌≢◌, List, ℕ, [], subst, ◌∙◌, rules, codes}
 use Rattle.compact_form.specs.Compact.{compact}
 use Rattle.hmac_sign.specs.Hmac.{hs256_key, IsGood}
+use Rattle.holder_core.specs.Asked.{asked_by}
 use Rattle.holder_core.specs.declared.ask.Ask.{Ask}
 use Rattle.holder_core.specs.declared.errors.PresentError.TheVariants.{Memory}
 use Rattle.holder_core.specs.Present.{IsNotPresented}
@@ -18,8 +19,8 @@ unreachable-requires c =
     let memory : error ≢ Memory = search rules in
     let text : c.as_bytes-text.result.now ≡ compact issued = c.as_bytes-text.ensures.value ∙ c.as_str.ensures ∙ c.in_ok-token.ensures.spelling in
     let never : c.new-never.result ≡ [] = c.new-never.ensures in
-    let refused = subst (λ (t : List ℕ). IsNotPresented never_rule c.new-never.result t c.in_ok-ask.ask (codes "HS256") (IsGood (hs256_key c.presenting_key.result)) 0 error) text c.in-Err.ensures.refused in
-    let by_ask = subst (λ (a : Ask). IsNotPresented never_rule c.new-never.result (compact issued) a (codes "HS256") (IsGood (hs256_key c.presenting_key.result)) 0 error) c.in_ok-ask.ensures refused in
-    let by_key = subst (λ (k : List ℕ). IsNotPresented never_rule c.new-never.result (compact issued) (generated_ask n) (codes "HS256") (IsGood (hs256_key k)) 0 error) c.presenting_key.ensures by_ask in
-    let by_rule = subst (λ (paths : List Path). IsNotPresented never_rule paths (compact issued) (generated_ask n) (codes "HS256") (IsGood generated_key) 0 error) never by_key in
+    let refused = subst (λ (t : List ℕ). IsNotPresented never_rule c.new-never.result t (asked_by c.in_ok-ask.ask) (codes "HS256") (IsGood (hs256_key c.presenting_key.result)) 0 error) text c.in-Err.ensures.refused in
+    let by_ask = subst (λ (a : Ask). IsNotPresented never_rule c.new-never.result (compact issued) (asked_by a) (codes "HS256") (IsGood (hs256_key c.presenting_key.result)) 0 error) c.in_ok-ask.ensures refused in
+    let by_key = subst (λ (k : List ℕ). IsNotPresented never_rule c.new-never.result (compact issued) (asked_by (generated_ask n)) (codes "HS256") (IsGood (hs256_key k)) 0 error) c.presenting_key.ensures by_ask in
+    let by_rule = subst (λ (paths : List Path). IsNotPresented never_rule paths (compact issued) (asked_by (generated_ask n)) (codes "HS256") (IsGood generated_key) 0 error) never by_key in
     nothing_refused n issued c.requires error memory c.in-Err.ensures.signed by_rule
