@@ -1,5 +1,5 @@
 -- From what is presented but for its signature to what is presented with one, and what more good signatures do.
-use Rattle.std.proofs.Common.{◌≡◌, ◌≢◌, ◌⊎◌, inl, inr, Err, ℕ, ◌<◌, List, Option, Some, None, IfSome, refl, sym, ap, ap₂, subst, ◌∙◌}
+use Rattle.std.proofs.Common.{◌≡◌, ◌⊎◌, inl, inr, Err, ℕ, ◌<◌, List, Option, Some, None, IfSome, refl, sym, ap, ap₂, subst, ◌∙◌}
 use Rattle.std.specs.Prelude.{◌++◌, length, codes}
 use Rattle.std.specs.Option.{option_map}
 use Rattle.std.specs.List.{AllByRecursion}

@@ -18,7 +18,6 @@ use Rattle.compact_form.specs.Views.{jwt_of}
 use Rattle.compact_form.specs.declared.parts.JwtParts.{JwtParts}
 use Rattle.compact_form.specs.declared.parts.Parts.{Parts}
 use Rattle.compact_form.specs.declared.view.JwtView.{JwtView}
-use Rattle.disclosure.specs.declared.digests.HashAlg.{HashAlg}
 use Rattle.hmac_sign.specs.Signatures.{Meaning}
 use Rattle.json_form.specs.Token.{IsToken}
 use Rattle.json_form.specs.declared.token.Token.{Token}
@@ -32,9 +31,9 @@ use Rattle.compact_form.specs.declared.fault.Fault.{Fault}
 use Rattle.jws_part.specs.Header.{IsHeaderUnreadable, IsHeaderCritical}
 use Rattle.verifier_core.specs.Asking.{IsEarlyOrSigned}
 use Rattle.verifier_core.specs.Check.{OnFault, IsSigned, IsUncounted}
-use Rattle.verifier_core.specs.Verdict.{Rules, TokenFails, HasHash}
+use Rattle.verifier_core.specs.Verdict.{Rules, TokenFails}
 use Rattle.verifier_core.specs.declared.check.VerifyError.{VerifyError}
-use Rattle.holder_core.specs.Asked.{Asked, BindingAsked}
+use Rattle.holder_core.specs.Asked.{Asked}
 use Rattle.holder_core.specs.declared.errors.PresentError.{PresentError}
 use Rattle.holder_core.specs.declared.errors.PresentError.TheVariants.{Memory, Token as OnCondition, HasBinding, NoSuchPlace, ConsentRefused, BindingKeyDiffers, SignFailed, TooLong}
 use Rattle.holder_core.specs.Unchecked.{unchecked}

@@ -1,5 +1,4 @@
 -- For private functions: what is asked, of what is borrowed.
-use Rattle.std.specs.Prelude.{option_map}
 use Rattle.std.specs.Option.{option_copied}
 use Rattle.holder_core.specs.Asked.{BindingAsked}
 use Rattle.holder_core.specs.declared.asked.AskedBinding.{AskedBinding}

@@ -137,7 +137,8 @@ fn present_token<S: Signer, F: Fn(&Path) -> bool>(
     }
 }
 
-// The token with the disclosures that are asked for and no key binding token, and what they show, where one is asked for.
+// The token with the disclosures that are asked for and no key binding token, and what they show, where one is asked
+// for.
 #[derive(Drop)]
 pub(crate) struct Unbound {
     pub(crate) parts: Parts,

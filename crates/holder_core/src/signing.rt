@@ -270,8 +270,8 @@ fn present_token<F: Fn(&Path) -> bool>(
     }
 }
 
-/// Presents a token as [`present`](crate::present) does, but without keys: the caller checks the issuer's signature, and
-/// makes the holder's, as where they are kept in hardware, or are of elliptic curves (RFC 7518 section 3.4, RFC 8037).
+/// Presents a token as [`present`](crate::present) does, but without keys: the caller checks the issuer's signature and
+/// makes the holder's, as where keys are kept in hardware, or are of elliptic curves (RFC 7518 section 3.4, RFC 8037).
 ///
 /// The caller calls with no answer, and again with what it found out where it is asked for the issuer's signature. Each
 /// call judges the text anew and keeps nothing. The caller answers for its word: it has checked the signature over the
@@ -279,8 +279,8 @@ fn present_token<F: Fn(&Path) -> bool>(
 /// What it says unasked is not looked at.
 ///
 /// Where a key binding token is asked for, the caller signs it with the holder's key, which the claim `cnf` of the
-/// payload tells, and [`UnsignedPresentation::signed`] puts the signature in. Only the name of the key is compared here,
-/// where the ask has one.
+/// payload tells, and [`UnsignedPresentation::signed`] puts the signature in. Of the key only the name is compared
+/// here, where the ask has one.
 pub fn present_unsigned<F: Fn(&Path) -> bool>(
     alloc: Global,
     text: &[u8],

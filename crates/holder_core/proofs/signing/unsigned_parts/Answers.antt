@@ -3,9 +3,8 @@ use Rattle.std.proofs.lemmas.Result.{IfOk-weaker, IfErr-weaker}
 use Rattle.verifier_core.specs.Check.{IsSigned}
 use Rattle.holder_core.specs.Asked.{Asked, BindingAsked}
 use Rattle.holder_core.specs.PresentSteps.{IsUnsignedOf, IsLongAlone}
-use Rattle.holder_core.proofs.Steps.{unpresented_refused, signed_result, signed_ok}
+use Rattle.holder_core.proofs.Steps.{signed_result, signed_ok}
 use Rattle.holder_core.proofs.SignedLater.{unsigned_ready, long_refused}
-use Rattle.holder_core.specs.ToSign.{none_good}
 use Rattle.holder_core.proofs.signing.unsigned_parts.Goals as goal
 
 pub returns-clause-unsigned : goal.returns-clause-unsigned
