@@ -6,7 +6,7 @@ use Rattle.claim_tree.specs.Lists.{StandsAt}
 use Rattle.claim_tree.specs.Tree.{Text}
 use Rattle.claim_tree.proofs.Lists.{At-left, At-right, At-either, At-below}
 use Rattle.compact_form.specs.declared.parts.Parts.{Parts}
-use Rattle.holder_core.specs.Present.{held_rules}
+use Rattle.holder_core.specs.Asked.{held_rules}
 use Rattle.holder_core.proofs.Picking.{picked_fewer}
 use Rattle.json_form.proofs.Tokens as tokens
 use Rattle.json_form.specs.Token.{IsToken}

@@ -7,7 +7,7 @@ use Rattle.claim_tree.specs.Tree.{Text}
 use Rattle.compact_form.specs.Condition.{number_of}
 use Rattle.compact_form.specs.Passing.{Passes}
 use Rattle.hmac_sign.specs.declared.key_set.NamedKey.{NamedKey}
-use Rattle.holder_core.specs.Present.{held_rules}
+use Rattle.holder_core.specs.Asked.{held_rules}
 use Rattle.json_form.specs.Token.{IsToken}
 use Rattle.json_form.specs.declared.token.Token.{Token}
 use Rattle.rebuild_core.specs.LookUps.{RoseWithin}

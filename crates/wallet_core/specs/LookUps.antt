@@ -5,7 +5,7 @@ use Rattle.claim_tree.specs.Tree.{Text, Tree}
 use Rattle.compact_form.specs.Passing.{Passes}
 use Rattle.digest_sites.specs.Given.{Given}
 use Rattle.hmac_sign.specs.declared.key_set.NamedKey.{NamedKey}
-use Rattle.holder_core.specs.Present.{held_rules}
+use Rattle.holder_core.specs.Asked.{held_rules}
 use Rattle.json_form.specs.Token.{IsToken}
 use Rattle.json_form.specs.declared.token.Token.{Token}
 use Rattle.rebuild_core.specs.LookUps.{look_ups, RoseWithin}

@@ -5,7 +5,7 @@ use Rattle.hmac_sign.specs.declared.key_set.NamedKey.{NamedKey}
 use Rattle.json_form.specs.Token.{IsToken}
 use Rattle.json_form.specs.declared.token.Token.{Token}
 use Rattle.marked_tree.specs.Marked.{Marked}
-use Rattle.holder_core.specs.Present.{held_rules}
+use Rattle.holder_core.specs.Asked.{held_rules}
 use Rattle.verifier_core.specs.Verdict.{IsChecked}
 
 -- the text is this token, which has no key binding token and fails none of the conditions 5 to 21, where one of these keys may have signed

@@ -3,7 +3,8 @@ use Rattle.std.specs.Prelude.{◌≡◌, ◌<◌, ◌≤◌, ◌⊎◌, ℕ, Boo
 use Rattle.claim_tree.specs.Tree.{Text}
 use Rattle.compact_form.specs.declared.parts.Parts.{Parts}
 use Rattle.hmac_sign.specs.declared.key_set.NamedKey.{NamedKey}
-use Rattle.holder_core.specs.Present.{held_rules, PicksParts}
+use Rattle.holder_core.specs.Asked.{held_rules}
+use Rattle.holder_core.specs.Present.{PicksParts}
 use Rattle.json_form.specs.declared.token.Token.{Token}
 use Rattle.marked_tree.specs.Marked.{Marked}
 use Rattle.marked_tree.specs.Numbers.{has}

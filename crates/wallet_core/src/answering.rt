@@ -3,7 +3,7 @@ ghost use Rattle.std.specs.Prelude.{◌≡◌, ◌≤◌, ◌<◌, ◌-◌, ◌^
 ghost use Rattle.sd_outside.specs.Limits.{json_depth_max};
 ghost use Rattle.claim_tree.specs.Tree.{depth};
 ghost use Rattle.compact_form.specs.Compact.{AreWords};
-ghost use Rattle.holder_core.specs.Present.{held_rules};
+ghost use Rattle.holder_core.specs.Asked.{held_rules};
 ghost use Rattle.marked_tree.specs.Choice.{IsUnmixed};
 ghost use Rattle.marked_tree.specs.Marked.{Marked as SeenMarked, strip};
 ghost use Rattle.marked_tree.specs.View.{marked_of};

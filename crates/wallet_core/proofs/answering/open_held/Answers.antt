@@ -1,4 +1,4 @@
-use Rattle.holder_core.specs.Present.{held_rules}
+use Rattle.holder_core.specs.Asked.{held_rules}
 use Rattle.verifier_core.specs.Check.{OnFault}
 use Rattle.compact_form.specs.Lowest.{IsLowest}
 use Rattle.compact_form.specs.Faults.{failed_of}

@@ -1,4 +1,4 @@
-use Rattle.holder_core.specs.Present.{held_rules}
+use Rattle.holder_core.specs.Asked.{held_rules}
 use Rattle.holder_core.proofs.HeldFacts.{checked_shallow, checked_unmixed}
 use Rattle.marked_tree.specs.View.{marked_of}
 use Rattle.wallet_core.proofs.Bests.{unanswered_all}
