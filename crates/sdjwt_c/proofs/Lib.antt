@@ -4,3 +4,4 @@ pub mod Handing
 pub mod Cutting
 pub mod ListTexts
 pub mod Tellings
+pub mod Signings

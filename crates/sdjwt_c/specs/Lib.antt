@@ -8,3 +8,4 @@ pub mod Questions
 pub mod Results
 pub mod Said
 pub mod Tokens
+pub mod Signing

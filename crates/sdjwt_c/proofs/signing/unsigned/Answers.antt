@@ -1,0 +1,10 @@
+use Rattle.std.proofs.Common.{rules}
+use Rattle.issuer_core.specs.Order.{order_of}
+use Rattle.sdjwt_c.specs.Signing.{no_seed}
+use Rattle.sdjwt_c.proofs.Signings.{is_asked, has_no_order, refuses_to_sign}
+use Rattle.sdjwt_c.proofs.signing.unsigned.Goals as goal
+
+pub returns-in_err-order-clause-unreadable : goal.returns-in_err-order-clause-unreadable
+returns-in_err-order-clause-unreadable c =
+    let told = has_no_order c.args.order.now c.args.seed.now c.read_unsigned_order.result c.read_unsigned_order.ensures.refused c.in_err-order.field-0.0 c.in_err-order.ensures.unreadable in
+    search (rules, told)
