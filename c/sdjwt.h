@@ -9,7 +9,7 @@
  * THE ANSWER goes to the caller's buffer `out`, which has room for `room` bytes, and its length to `*len`. It has no
  * zero byte behind it. A call that answers
  *
- *   SDJWT_DONE        wrote the answer whole: a text, and a line end behind it;
+ *   SDJWT_DONE        wrote the answer whole: a text, and a line end behind it, but for sdjwt_issue_ask;
  *   SDJWT_REFUSED     wrote a line that tells why, as "refused 10 badSignature\n";
  *   SDJWT_UNREADABLE  wrote a line that tells which of its first two inputs is not of its form, and why, as
  *                     "unreadable 1 notJson\n";
@@ -99,6 +99,39 @@ uint32_t sdjwt_abi_version(void);
 SDJWT_CHECKED sdjwt_status sdjwt_issue(const uint8_t *order, size_t order_len,
                                        const uint8_t *seed, size_t seed_len,
                                        uint8_t *out, size_t room, size_t *len);
+
+/*
+ * The text that is to be signed of a token, for a signature that you make: with a public key's private half, in OpenSSL
+ * or in a secure element. Then sdjwt_issue_sign puts your signature to it. Nothing is kept between the two calls: each
+ * lays out the order anew, so give both the same order, algorithm and seed.
+ *
+ * The order is that of sdjwt_issue without `key` and `alg`: with one of them the line is "unreadable 1 unknown". `alg` is
+ * the name of your algorithm, as "ES256", which the header of the token tells (RFC 7515 section 4.1.1). Where it is no
+ * UTF-8 text, of no bytes, or "none", the status is SDJWT_USAGE; of all other names none is known here, and each is
+ * taken. The seed is that of sdjwt_issue: secret, and used for one token alone, though for both calls. Of one that is
+ * too short the line is "unreadable 2 short".
+ *
+ * The answer is the header and the payload with a full stop between them, and NO line end behind it. Of the refusals 51
+ * to 61 each comes here but 61, on the length of the token, which has no signature yet.
+ *
+ * YOU ANSWER for the signature, which the library can't check. Sign just the `*len` bytes of the answer, with the private
+ * key of the algorithm that you named. Let this key sign by no other algorithm, and nothing but tokens of yours.
+ */
+SDJWT_CHECKED sdjwt_status sdjwt_issue_ask(const uint8_t *order, size_t order_len,
+                                           const uint8_t *alg, size_t alg_len,
+                                           const uint8_t *seed, size_t seed_len,
+                                           uint8_t *out, size_t room, size_t *len);
+
+/*
+ * The token of the same order, algorithm and seed, with this signature of what sdjwt_issue_ask answers. It is the bytes
+ * of the signature as a JWS has them, before base64url: of ES256 the 64 bytes of r and s (RFC 7518 section 3.4), and not
+ * the DER that OpenSSL writes. Of no bytes the status is SDJWT_USAGE.
+ */
+SDJWT_CHECKED sdjwt_status sdjwt_issue_sign(const uint8_t *order, size_t order_len,
+                                            const uint8_t *alg, size_t alg_len,
+                                            const uint8_t *seed, size_t seed_len,
+                                            const uint8_t *signature, size_t signature_len,
+                                            uint8_t *out, size_t room, size_t *len);
 
 /* Presents what an order asks for of a token, at a moment in seconds since 1970, which a key binding token tells. */
 SDJWT_CHECKED sdjwt_status sdjwt_present(const uint8_t *order, size_t order_len,
