@@ -15,8 +15,9 @@ A token may come from a stranger, so each call that takes one bounds its length 
 >>> sdjwt.verify({"keys": keys, "iss": "tickets"}, shown)
 {'iss': 'tickets', 'seat': 'B12'}
 
-What it issues is signed with shared keys (HMAC): whoever verifies such a token can make one. What it verifies may be signed
-with public keys too, by the package cryptography, which `sdjwt[keys]` installs.
+A key of an order is shared (HMAC): whoever verifies such a token can make one. With `sign` a token is issued with a private
+key, of which verifiers have the public one, by the package cryptography, which `sdjwt[keys]` installs. Tokens that others signed
+so are verified too. What is presented is signed with shared keys alone.
 """
 from __future__ import annotations
 
@@ -25,14 +26,19 @@ import secrets
 from collections.abc import Iterable, Mapping
 from dataclasses import dataclass
 from time import time as _time
-from typing import Any, Literal, Union
+from typing import TYPE_CHECKING, Any, Literal, Union
 
 from sdjwt import _library
 from sdjwt._asking import Asking, CheckFunction, Question, asking_of
 from sdjwt._built import PROVED as proved
 from sdjwt._built import VERSION as __version__
+from sdjwt._detail import UNSIGNED
 from sdjwt._errors import NoCryptography, OutOfMemory, Refused, SdJwtError, TooLong, Unreadable, unreadable
 from sdjwt._given import MOST, file_bytes, held_bytes, moment, seed_bytes, token_bytes
+from sdjwt._signing import SignFunction, signer_of
+
+if TYPE_CHECKING:
+    from sdjwt._signing import PrivateKey
 
 __all__ = [
     "MOST", "NoCryptography", "OutOfMemory", "Picked", "Policy", "Question", "Refused", "SdJwtError", "TooLong",
@@ -64,7 +70,9 @@ def _without_end(text: bytes) -> str:
     return text.decode()[:-1]
 
 
-def issue(order: Json, seed: Bytes | None = None) -> str:
+def issue(
+    order: Json, seed: Bytes | None = None, *, sign: PrivateKey | SignFunction | None = None, alg: str | None = None,
+) -> str:
     """The token of an order, in its compact form.
 
     The salts of the hidden claims come from the seed, 32 bytes or more, which are drawn where none is given. Whoever knows
@@ -78,9 +86,26 @@ def issue(order: Json, seed: Bytes | None = None) -> str:
     >>> issue({"payload": {"name": "Ada"}, "hide": ["/seat"], "key": key})
     Traceback (most recent call last):
     sdjwt._errors.Refused: refused 55 noSuchPlace at 0
+
+    The key of an order is shared. With `sign` the order has neither `key` nor `alg`, and `sign` is a private key of the package
+    cryptography, or a function that is given the bytes to sign and answers the signature. A key of P-256, P-384, P-521 or Ed25519
+    signs by ES256, ES384, ES512 or EdDSA. For one of RSA `alg` names the algorithm: PS256, PS384, PS512, RS256, RS384 or RS512.
+    For a function `alg` names its algorithm, and the signature is the one that a JWS has: of ES256 the 64 bytes of r and s, and
+    not the DER that many a vault answers. It is asked once, and only for an order that is not refused.
+
+    >>> def vault(text):
+    ...     return bytes(64)                # the signature that your vault makes of these bytes
+    >>> token = issue({"payload": {"name": "Ada"}, "hide": ["/name"], "kid": "k1"}, sign=vault, alg="ES256")
+    >>> show(token)["header"]
+    {'alg': 'ES256', 'kid': 'k1'}
     """
     ordered = file_bytes(order, "order")
     salted = secrets.token_bytes(32) if seed is None else seed_bytes(seed)
+    if sign is not None:
+        called = signer_of(sign, alg).issue(ordered, salted)
+        return _without_end(_answer(*called, (UNSIGNED, ordered), ("seed", salted)))
+    if alg is not None:
+        raise ValueError("sdjwt: alg is given without sign; the algorithm of a shared key stands in the order")
     return _without_end(_answer(*_library.call("issue", ordered, salted), ("order", ordered), ("seed", salted)))
 
 

@@ -437,26 +437,30 @@ _BINDINGS: dict[str, dict[str, Check]] = {
     "policy": {"aud": _AUDIENCE, "nonce": _short_text, "keys": _key_set, "max_age": _whole(2**32 - 1)},
     "present order": {"key": _key, "kid": _text, "aud": _short_text, "nonce": _short_text},
 }
-_FORMS = {
+_ORDER = (
+    _Member("payload", _any, True), _Member("hide", _POINTERS),
+    _Member("decoys", _list_of(_just({"at": _pointer, "count": _whole(_COUNT_MAX)}))), _Member("key", _key, True),
+    _Member("kid", _text), _Member("typ", _text), _Member("alg", _alg), _Member("sd_alg", _one_of(_HASHES)))
+# The order of who signs by itself. The program reads none.
+UNSIGNED = "order without a key"
+_FORMS: dict[str, tuple[_Member, ...]] = {
     "policy": (
         _Member("version", _version), _Member("keys", _key_set, True), _Member("algs", _list_of(_text)), _Member("typ", _text),
         _Member("iss", _by_version(_text, _list_of(_text, 1))), _Member("require", _list_of(_text)), _Member("skew", _whole(3600)),
         _Member("binding", _just(_BINDINGS["policy"]))),
-    "order": (
-        _Member("payload", _any, True), _Member("hide", _POINTERS),
-        _Member("decoys", _list_of(_just({"at": _pointer, "count": _whole(_COUNT_MAX)}))), _Member("key", _key, True),
-        _Member("kid", _text), _Member("typ", _text), _Member("alg", _alg), _Member("sd_alg", _one_of(_HASHES))),
+    "order": _ORDER,
+    UNSIGNED: tuple(member for member in _ORDER if member.name not in ("key", "alg")),
     "present order": (
         _Member("keys", _key_set, True), _Member("want", _POINTERS), _Member("never", _POINTERS), _Member("binding", _just(_BINDINGS["present order"]))),
     "query": (
         _Member("keys", _key_set, True), _Member("want", _POINTERS),
         _Member("equal", _list_of(_just({"at": _pointer, "value": _plain}))), _Member("never", _POINTERS)),
 }
-KINDS = (*_FORMS, "seed")
+KINDS = (*(kind for kind in _FORMS if kind != UNSIGNED), "seed")
 
 
 def fault(kind: str, content: bytes) -> Fault | None:
-    """The first fault of what a file of a kind has in it. `kind` is one of KINDS."""
+    """The first fault of what a file of a kind has in it. `kind` is one of KINDS, or UNSIGNED."""
     if kind == "seed":
         short = len(content) < _SEED_LEN
         return Fault("short", f"it has {len(content)} bytes, of the at least {_SEED_LEN} that a seed has") if short else None
@@ -506,7 +510,7 @@ def _strangers_in(kind: str, binding: Any) -> list[str]:
 
 
 def _kind(kind: str) -> str:
-    return f"an {kind}" if kind == "order" else f"a {kind}"
+    return f"an {kind}" if kind.startswith("order") else f"a {kind}"
 
 
 def _unknown(kind: str, unknown: list[str], known: list[str]) -> str:

@@ -130,7 +130,7 @@ class TooLong(SdJwtError, ValueError):
 
 
 class NoCryptography(SdJwtError, ImportError):
-    """A policy has public keys, and the package cryptography, which checks signatures under them, is not installed."""
+    """A policy has public keys, or a private key is to sign, and the package cryptography, which does so, is not installed."""
 
     def __init__(self, line: str = "sdjwt: a policy with public keys needs the package cryptography: pip install 'sdjwt[keys]'") -> None:
         super().__init__(line, "")

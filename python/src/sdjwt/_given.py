@@ -79,6 +79,21 @@ def seed_bytes(given: object) -> bytes:
     return _plain_bytes(given, "seed", "bytes")
 
 
+def alg_bytes(given: object) -> bytes:
+    """The name of an algorithm. That it is one is for the library to say."""
+    if not isinstance(given, str):
+        raise TypeError(f"sdjwt: alg is of type {type(given).__name__}, and has to be a str")
+    try:
+        return str.encode(given)
+    except UnicodeEncodeError:
+        raise ValueError("sdjwt: alg has half of a surrogate pair in it, which no text has") from None
+
+
+def signature_bytes(given: object) -> bytes:
+    """What a function answered that signs."""
+    return _plain_bytes(given, "what sign answered", "the bytes of a signature")
+
+
 def moment(now: object) -> int:
     """A moment in whole seconds since 1970, and the present one where none is given."""
     if now is None:

@@ -23,6 +23,8 @@ _IN = (c_char_p, c_size_t)
 _OUT = (c_void_p, c_size_t, c_void_p)
 _CALLS: dict[str, tuple[Any, ...]] = {
     "issue": (*_IN, *_IN, *_OUT),
+    "issue_ask": (*_IN, *_IN, *_IN, *_OUT),
+    "issue_sign": (*_IN, *_IN, *_IN, *_IN, *_OUT),
     "present": (*_IN, *_IN, c_uint64, *_OUT),
     "verify": (*_IN, *_IN, c_uint64, *_OUT),
     "show": (*_IN, *_OUT),

@@ -1,16 +1,17 @@
-"""Checks of signatures by the package cryptography, each under one public key."""
+"""Signatures by the package cryptography: checks, each under one public key, and signing with a private one."""
 from __future__ import annotations
 
-from typing import Any
+from collections.abc import Callable
+from typing import Any, NamedTuple, Optional
 
 from cryptography.exceptions import InvalidSignature, UnsupportedAlgorithm
 from cryptography.hazmat.primitives import hashes
 from cryptography.hazmat.primitives.asymmetric import ec, padding
-from cryptography.hazmat.primitives.asymmetric.ed25519 import Ed25519PublicKey
-from cryptography.hazmat.primitives.asymmetric.rsa import RSAPublicNumbers
-from cryptography.hazmat.primitives.asymmetric.utils import encode_dss_signature
+from cryptography.hazmat.primitives.asymmetric.ed25519 import Ed25519PrivateKey, Ed25519PublicKey
+from cryptography.hazmat.primitives.asymmetric.rsa import RSAPrivateKey, RSAPublicNumbers
+from cryptography.hazmat.primitives.asymmetric.utils import decode_dss_signature, encode_dss_signature
 
-from sdjwt._public import BadKey, Check
+from sdjwt._public import CURVES, ED25519, RSA, RSA_BITS_MIN, BadKey, Check
 
 _EC: dict[str, tuple[ec.EllipticCurve, hashes.HashAlgorithm]] = {
     "P-256": (ec.SECP256R1(), hashes.SHA256()), "P-384": (ec.SECP384R1(), hashes.SHA384()), "P-521": (ec.SECP521R1(), hashes.SHA512())}
@@ -52,13 +53,17 @@ def rsa_checks(n: int, e: int, names: tuple[str, ...]) -> dict[str, Check]:
         raise BadKey("n and e are no key of RSA") from None
 
     def check_by(name: str) -> Check:
-        hash_alg = _HASHES[name[2:]]
-        pad: padding.AsymmetricPadding = padding.PKCS1v15()
-        if name.startswith("PS"):
-            pad = padding.PSS(padding.MGF1(hash_alg), hash_alg.digest_size)
-        return lambda signature, text: _is_good(key, signature, text, pad, hash_alg)
+        scheme = _rsa_scheme(name)
+        return lambda signature, text: _is_good(key, signature, text, *scheme)
 
     return {name: check_by(name) for name in names}
+
+
+def _rsa_scheme(name: str) -> tuple[padding.AsymmetricPadding, hashes.HashAlgorithm]:
+    hash_alg = _HASHES[name[2:]]
+    if name.startswith("PS"):
+        return padding.PSS(padding.MGF1(hash_alg), hash_alg.digest_size), hash_alg
+    return padding.PKCS1v15(), hash_alg
 
 
 def _is_good(key: Any, signature: bytes, text: bytes, *scheme: Any) -> bool:
@@ -67,3 +72,39 @@ def _is_good(key: Any, signature: bytes, text: bytes, *scheme: Any) -> bool:
     except InvalidSignature:
         return False
     return True
+
+
+class SigningKey(NamedTuple):
+    """A key that signs: the algorithms that it serves, the one that is meant where none is named, and how it signs by one."""
+
+    names: tuple[str, ...]
+    usual: Optional[str]
+    sign: Callable[[str, bytes], bytes]
+
+
+def private_key(key: object) -> SigningKey | None:
+    """What a private key of the package serves. None where it is of no type that is known here."""
+    if isinstance(key, ec.EllipticCurvePrivateKey):
+        return _ec_key(key)
+    if isinstance(key, Ed25519PrivateKey):
+        by_curve = key.sign
+        return SigningKey(ED25519, ED25519[0], lambda _, text: by_curve(text))
+    if isinstance(key, RSAPrivateKey):
+        if key.key_size < RSA_BITS_MIN:
+            raise BadKey(f"it has fewer than {RSA_BITS_MIN} bits")
+        by_scheme = key.sign
+        return SigningKey(RSA, None, lambda name, text: by_scheme(text, *_rsa_scheme(name)))
+    return None
+
+
+def _ec_key(key: ec.EllipticCurvePrivateKey) -> SigningKey:
+    curve = next((curve for curve, (group, _) in _EC.items() if group.name == key.curve.name), None)
+    if curve is None:
+        raise BadKey(f"its curve is {key.curve.name}, and has to be one of {', '.join(CURVES)}")
+    (name, size), scheme = CURVES[curve], ec.ECDSA(_EC[curve][1])
+
+    def sign(_: str, text: bytes) -> bytes:
+        pair = decode_dss_signature(key.sign(text, scheme))
+        return b"".join(number.to_bytes(size, "big") for number in pair)
+
+    return SigningKey((name,), name, sign)

@@ -1,0 +1,71 @@
+"""Issuing with a signature that is made here, with a private key, or by a function of the caller.
+
+No rule of SD-JWT stands here. The library says what is to be signed, and makes the token of the signature; what is decided is
+only by which algorithm a key signs, and that it signs nothing else.
+"""
+from __future__ import annotations
+
+from collections.abc import Callable
+from functools import partial
+from typing import TYPE_CHECKING, NamedTuple, Union
+
+from sdjwt import _library
+from sdjwt._errors import NoCryptography
+from sdjwt._given import alg_bytes, signature_bytes
+from sdjwt._public import BadKey
+
+if TYPE_CHECKING:
+    from cryptography.hazmat.primitives.asymmetric.ec import EllipticCurvePrivateKey
+    from cryptography.hazmat.primitives.asymmetric.ed25519 import Ed25519PrivateKey
+    from cryptography.hazmat.primitives.asymmetric.rsa import RSAPrivateKey
+
+    PrivateKey = Union[EllipticCurvePrivateKey, Ed25519PrivateKey, RSAPrivateKey]
+
+# The signature of a text.
+SignFunction = Callable[[bytes], Union[bytes, bytearray, memoryview]]
+
+
+class Signer(NamedTuple):
+    """Who signs: the name of the algorithm, and what makes the signature of a text."""
+
+    alg: bytes
+    sign: Callable[[bytes], object]
+
+    def issue(self, order: bytes, seed: bytes) -> tuple[int, bytes]:
+        """The status, and the token or the line."""
+        status, said = _library.call("issue_ask", order, self.alg, seed)
+        if status == _library.USAGE:
+            raise ValueError("sdjwt: alg is no name of an algorithm by which a token is signed")
+        if status != _library.DONE:
+            return status, said
+        signature = signature_bytes(self.sign(said))
+        status, said = _library.call("issue_sign", order, self.alg, seed, signature)
+        if status == _library.USAGE:
+            raise ValueError("sdjwt: what sign answered has no bytes, and is no signature")
+        return status, said
+
+
+def signer_of(sign: object, alg: object) -> Signer:
+    """Who signs, by what was given as `sign` and `alg`."""
+    named = None if alg is None else alg_bytes(alg)
+    if callable(sign):
+        if named is None:
+            raise ValueError("sdjwt: alg is missing, which names the algorithm of the function sign")
+        return Signer(named, sign)
+    try:
+        from sdjwt import _signatures
+    except ImportError as missing:
+        raise NoCryptography("sdjwt: a private key needs the package cryptography: pip install 'sdjwt[keys]'") from missing
+    try:
+        key = _signatures.private_key(sign)
+    except BadKey as fault:
+        raise ValueError(f"sdjwt: sign is a private key that signs no token: {fault}") from None
+    if key is None:
+        raise TypeError(f"sdjwt: sign is of type {type(sign).__name__}, and has to be a private key of the package cryptography, "
+                        "of P-256, P-384, P-521, Ed25519 or RSA, or a function")
+    name = key.usual if named is None else named.decode()
+    if name is None:
+        raise ValueError(f"sdjwt: alg is missing, by which this key is to sign: one of {', '.join(key.names)}")
+    if name not in key.names:
+        raise ValueError(f"sdjwt: alg does not fit the key given as sign, which serves {', '.join(key.names)}")
+    return Signer(name.encode(), partial(key.sign, name))
