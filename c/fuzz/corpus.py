@@ -23,6 +23,15 @@ SOME_MOMENT = 1_800_000_000
 LONGEST = 16_384
 
 
+def without_key(order):
+    """An order for who signs, where it is JSON that has a key."""
+    try:
+        members = json.loads(order)
+        return json.dumps({name: value for name, value in members.items() if name not in ("key", "alg")}).encode()
+    except (ValueError, AttributeError, RecursionError):
+        return order
+
+
 def inputs(vector):
     """The calls of a vector's runs, each with the bytes of its files."""
     files = {name: content.encode() for name, content in vector["files"].items()}
@@ -33,6 +42,10 @@ def inputs(vector):
             parts = [*parts[1:], b"x" * FORMS.index(words[0])]
         if call in CALLS and parts and None not in parts:
             yield call, parts
+        if call == "issue" and len(parts) == 2 and None not in parts:
+            asked = [without_key(parts[0]), b"ES256", parts[1]]
+            yield "ask", asked
+            yield "sign", [*asked, b"a signature"]
         answer = reading.run(run["words"], files.get, run.get("moment", SOME_MOMENT), files.get("source", b""))
         if "kept_as" in run:
             files[run["kept_as"]] = answer.output
@@ -40,7 +53,7 @@ def inputs(vector):
 
 def main():
     folder = Path(sys.argv[1])
-    for call in (*CALLS, "policy"):
+    for call in (*CALLS, "ask", "sign", "policy"):
         (folder / call).mkdir(parents=True, exist_ok=True)
     found = [each for path in sorted((TOP / "vectors").glob("*.json")) for each in json.loads(path.read_text("utf-8"))]
     for vector in found + write.of_tools():

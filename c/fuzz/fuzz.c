@@ -1,9 +1,9 @@
 /*
  * Fuzzes one call of the C library, by libFuzzer: c/fuzz/run.sh builds it and tells how.
  *
- * The environment's SDJWT_FUZZ names the call: verify, present, issue, show, convert, audit, wallet or policy. An input
- * is the files of the call, with a zero byte between two: what stands for its order, policy or query, then its tokens.
- * Each comes to the call in memory of its own and of just its length. What the header promises of an answer is checked:
+ * The environment's SDJWT_FUZZ names the call: verify, present, issue, ask, sign, show, convert, audit, wallet or policy.
+ * An input is the files of the call, with a zero byte between two: what stands for its order, policy or query, then its
+ * tokens; for ask and sign the name of the algorithm, the seed and the signature. Each comes to the call in memory of its own and of just its length. What the header promises of an answer is checked:
  * its status, its length, the bytes behind it, and that a call with just as much room answers the same.
  */
 #include "sdjwt.h"
@@ -53,6 +53,17 @@ static sdjwt_status call_present(const input *given, uint8_t *out, size_t room, 
 static sdjwt_status call_issue(const input *given, uint8_t *out, size_t room, size_t *len) {
     text order = part(given, 0), seed = part(given, 1);
     return sdjwt_issue(order.bytes, order.len, seed.bytes, seed.len, out, room, len);
+}
+
+static sdjwt_status call_ask(const input *given, uint8_t *out, size_t room, size_t *len) {
+    text order = part(given, 0), alg = part(given, 1), seed = part(given, 2);
+    return sdjwt_issue_ask(order.bytes, order.len, alg.bytes, alg.len, seed.bytes, seed.len, out, room, len);
+}
+
+static sdjwt_status call_sign(const input *given, uint8_t *out, size_t room, size_t *len) {
+    text order = part(given, 0), alg = part(given, 1), seed = part(given, 2), made = part(given, 3);
+    return sdjwt_issue_sign(order.bytes, order.len, alg.bytes, alg.len, seed.bytes, seed.len, made.bytes, made.len, out, room,
+                            len);
 }
 
 static sdjwt_status call_show(const input *given, uint8_t *out, size_t room, size_t *len) {
@@ -112,8 +123,8 @@ static const struct {
     const char *name;
     call *made;
 } calls[] = {
-    {"verify", call_verify}, {"present", call_present}, {"issue", call_issue},   {"show", call_show},
-    {"convert", call_convert}, {"audit", call_audit},   {"wallet", call_wallet}, {"policy", call_policy},
+    {"verify", call_verify}, {"present", call_present}, {"issue", call_issue}, {"ask", call_ask}, {"sign", call_sign},
+    {"show", call_show}, {"convert", call_convert}, {"audit", call_audit}, {"wallet", call_wallet}, {"policy", call_policy},
 };
 
 static call *chosen;
@@ -142,7 +153,8 @@ static sdjwt_status with_room(const input *given, size_t room, uint8_t **out, si
     size_t written = 0;
     if (status == SDJWT_DONE || status == SDJWT_REFUSED || status == SDJWT_UNREADABLE) {
         check(*len <= room, "an answer is longer than its room");
-        check(*len == 0 || (*out)[*len - 1] == '\n', "an answer does not end its line");
+        int is_line = *len == 0 || (*out)[*len - 1] == '\n';
+        check(is_line != (chosen == call_ask && status == SDJWT_DONE), "an answer does not end its line, or a text has an end");
         written = *len;
     } else if (status == SDJWT_UNWRITTEN) {
         check(*len > room, "an answer that has room is not written");

@@ -21,6 +21,8 @@ enum { ISSUE, PRESENT, VERIFY, SHOW, SPLIT, CONVERT, AUDIT, WALLET };
 #define BEHIND 8
 #define OWN_STACK (32 * 1024)
 #define FILL 0xA5
+/* A signature with which no token is short enough. */
+#define TOO_LONG ((size_t)13 << 20)
 
 struct text {
     const uint8_t *bytes;
@@ -300,6 +302,56 @@ static void judging(void) {
     sdjwt_policy_free(&handle);
 }
 
+/* What is said of an order without a key: the text that is to be signed, or its line; then the token with a signature. */
+#define SIGNED "eyJhbGciOiJFUzI1NiJ9.eyJfc2QiOlsiRVNRVzNfaHRvV25MV0V2bGRjZlZLbmU5ZUcwWGQ5eHh5ajJxZ1hiOC1mYyJdLCJfc2RfYWxnIjoic2hhLTI1NiJ9"
+#define HIDING "{\"payload\":{\"a\":1},\"hide\":[\"/a\"]}"
+static const struct { const char *order, *alg; size_t seed_len, signature_len; sdjwt_status asked, signs; const char *text, *token; } signings[] = {
+    {HIDING, "ES256", 32, 1, SDJWT_DONE, SDJWT_DONE, SIGNED, SIGNED ".AA~WyJkcmpncmFEeFBaQkFYV3JsVTRhOUtBIiwiYSIsMV0~\n"},
+    {HIDING, "ES256", 33, 2, SDJWT_DONE, SDJWT_DONE, SIGNED, SIGNED ".AAA~WyJkcmpncmFEeFBaQkFYV3JsVTRhOUtBIiwiYSIsMV0~\n"},
+    {"{\"payload\":{},\"kid\":\"k\",\"typ\":\"t\"}", "nonesuch", 32, 1, SDJWT_DONE, SDJWT_DONE,
+     "eyJhbGciOiJub25lc3VjaCIsImtpZCI6ImsiLCJ0eXAiOiJ0In0.eyJfc2RfYWxnIjoic2hhLTI1NiJ9",
+     "eyJhbGciOiJub25lc3VjaCIsImtpZCI6ImsiLCJ0eXAiOiJ0In0.eyJfc2RfYWxnIjoic2hhLTI1NiJ9.AA~\n"},
+    {"{\"payload\":{\"a\":1},\"key\":\"AQEBAQEBAQEBAQEBAQEBAQEBAQEBAQEBAQEBAQEBAQE\"}", "HS256", 32, 1,
+     SDJWT_UNREADABLE, SDJWT_UNREADABLE, "unreadable 1 unknown\n", "unreadable 1 unknown\n"},
+    {"{\"payload\":{\"a\":1},\"alg\":\"ES256\"}", "ES256", 32, 1,
+     SDJWT_UNREADABLE, SDJWT_UNREADABLE, "unreadable 1 unknown\n", "unreadable 1 unknown\n"},
+    {"{\"hide\":[\"/a\"]}", "ES256", 0, 1, SDJWT_UNREADABLE, SDJWT_UNREADABLE, "unreadable 1 missing payload\n", "unreadable 1 missing payload\n"},
+    {"", "ES256", 0, 1, SDJWT_UNREADABLE, SDJWT_UNREADABLE, "unreadable 1 notJson\n", "unreadable 1 notJson\n"},
+    {HIDING, "ES256", 31, 1, SDJWT_UNREADABLE, SDJWT_UNREADABLE, "unreadable 2 short\n", "unreadable 2 short\n"},
+    {"{\"payload\":{\"a\":1},\"hide\":[\"/a\",\"/b\"]}", "ES256", 32, 1,
+     SDJWT_REFUSED, SDJWT_REFUSED, "refused 55 noSuchPlace at 1\n", "refused 55 noSuchPlace at 1\n"},
+    {"{\"payload\":1}", "ES256", 32, 1, SDJWT_REFUSED, SDJWT_REFUSED, "refused 51 payloadNotObject\n", "refused 51 payloadNotObject\n"},
+    {HIDING, "ES256", 32, 0, SDJWT_DONE, SDJWT_USAGE, SIGNED, ""},
+    {HIDING, "ES256", 32, TOO_LONG, SDJWT_DONE, SDJWT_REFUSED, SIGNED, "refused 61 issueTooLong\n"},
+    {HIDING, "", 32, 1, SDJWT_USAGE, SDJWT_USAGE, "", ""},
+    {HIDING, "none", 32, 1, SDJWT_USAGE, SDJWT_USAGE, "", ""},
+    {HIDING, "ES\xff", 32, 1, SDJWT_USAGE, SDJWT_USAGE, "", ""},
+    {"{", "none", 0, 0, SDJWT_USAGE, SDJWT_USAGE, "", ""},
+};
+
+/* Each signing with a room that just fits, one that is larger and those that are too small. Seed and signature are zeros. */
+static void signing(void) {
+    uint8_t *zeros = room_of(TOO_LONG), out[512];
+    memset(zeros, 0, TOO_LONG);
+    for (size_t i = 0; i < sizeof signings / sizeof *signings; i++) {
+        const uint8_t *order = (const uint8_t *)signings[i].order, *alg = (const uint8_t *)signings[i].alg;
+        size_t order_len = strlen(signings[i].order), alg_len = strlen(signings[i].alg), seed_len = signings[i].seed_len;
+        for (int which = 0; which < 8; which++) {
+            const char *text = which % 2 ? signings[i].token : signings[i].text;
+            size_t due = strlen(text), sizes[] = {due, due + BEHIND, due ? due - 1 : 0, 0}, room = sizes[which / 2], len = 12345;
+            memset(out, FILL, sizeof out);
+            sdjwt_status status = which % 2
+                ? sdjwt_issue_sign(order, order_len, alg, alg_len, zeros, seed_len, zeros, signings[i].signature_len, out, room, &len)
+                : sdjwt_issue_ask(order, order_len, alg, alg_len, zeros, seed_len, out, room, &len);
+            CHECK(len == due, text);
+            if (room < due) CHECK(status == SDJWT_UNWRITTEN && is_filled(out, 0, sizeof out), text);
+            else CHECK(status == (which % 2 ? signings[i].signs : signings[i].asked), text);
+            if (room >= due) CHECK(memcmp(out, text, due) == 0 && is_filled(out, due, sizeof out), text);
+        }
+    }
+    free(zeros);
+}
+
 /* A handle that another thread made is used here, and freed. */
 static void *take_over(void *handle) {
     uint8_t line[128];
@@ -405,6 +457,7 @@ int main(int count, char **words) {
     empty_inputs();
     rules_of_lengths();
     judging();
+    signing();
     for (int refused = 0; refused < 2; refused++) {
         const struct vector *vector = verifying(refused ? SDJWT_REFUSED : SDJWT_DONE);
         const struct run *run = &vector->runs[0];

@@ -86,6 +86,14 @@ static sdjwt_status ask_signature(uint8_t said, struct text *out) {
                        NOW, said, SDJWT_UNSAID, out->bytes, ROOM, &out->len);
 }
 
+/* An order without a key: what is to be signed, and the token with the signature of one byte. */
+static sdjwt_status ask_for(int is_signed, struct text *out) {
+    static const char asked[] = "{\"payload\":{\"a\":1,\"b\":[2,3]},\"hide\":[\"/a\",\"/b/1\"],\"decoys\":[{\"at\":\"\",\"count\":2}],\"kid\":\"k\"}";
+    const uint8_t *given = (const uint8_t *)asked, *alg = (const uint8_t *)"ES256";
+    if (!is_signed) return sdjwt_issue_ask(given, strlen(asked), alg, 5, seed.bytes, seed.len, out->bytes, ROOM, &out->len);
+    return sdjwt_issue_sign(given, strlen(asked), alg, 5, seed.bytes, seed.len, (const uint8_t *)"s", 1, out->bytes, ROOM, &out->len);
+}
+
 static sdjwt_status call(int which, struct text *out) {
     switch (which) {
     case 0: return sdjwt_issue(order.bytes, order.len, seed.bytes, seed.len, out->bytes, ROOM, &out->len);
@@ -100,11 +108,13 @@ static sdjwt_status call(int which, struct text *out) {
     case 9: return ask_wallet(out);
     case 10: return ask_signature(SDJWT_UNSAID, out);
     case 11: return ask_signature(SDJWT_GOOD, out);
+    case 12: return ask_for(0, out);
+    case 13: return ask_for(1, out);
     default: return sdjwt_verify(policy.bytes, policy.len, token.bytes, token.len, NOW, out->bytes, ROOM, &out->len);
     }
 }
 
-#define CALLS 13
+#define CALLS 15
 
 int main(int count, char **words) {
     static struct text due, out;

@@ -105,8 +105,8 @@ def test_each_kind_of_bytes_is_a_signature():
 
 @each("more", [
     {}, {"kid": "k"}, {"typ": "t"}, {"sd_alg": "sha-512"}, {"hide": []}, {"hide": ["/list", "/list/1"], "kid": "k", "typ": "t"},
-    {"decoys": [{"at": "", "count": 3}, {"at": "/list", "count": 2}]}, {"payload": {"text": "x" * 100_000, "\u00e9\U0001f600": None}, "hide": ["/text"]},
-], ids=str)
+    {"decoys": [{"at": "", "count": 3}, {"at": "/list", "count": 2}]}, {"payload": {"text": "x" * 10_000, "\u00e9\U0001f600": None}, "hide": ["/text"]},
+], ids=lambda more: "-".join(more) or "plain")
 def test_by_an_hmac_it_is_the_token_that_the_library_signs(more):
     order = {**ORDER, **more}
     for seed in (SEED, bytes(32), b"\xff" * 40):
