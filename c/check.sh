@@ -1,7 +1,7 @@
 #!/bin/sh
 # Tests the C library: builds it, and runs c/tests/calls.c over the vectors of vectors/, on one thread and on eight, under
 # AddressSanitizer with UndefinedBehaviorSanitizer, and under valgrind; then with each request for memory refused in turn;
-# then the program of docs/C.md that checks signatures by OpenSSL, over the presentation of RFC 9901.
+# then the programs of docs/C.md that check signatures by OpenSSL, over the presentation of RFC 9901, and make them.
 #
 #   sh c/check.sh               a tool that is missing is told and skipped
 #   sh c/check.sh --install     what is missing is installed from Debian's packages first
@@ -9,7 +9,7 @@ set -eu
 
 case ${1-} in
     '') ;;
-    --install) apt-get install -y gcc binutils valgrind pkg-config python3 libssl-dev ;;
+    --install) apt-get install -y gcc binutils valgrind pkg-config python3 libssl-dev openssl ;;
     *) echo 'usage: sh c/check.sh [--install]' >&2; exit 2 ;;
 esac
 here=$(cd "$(dirname "$0")" && pwd)
@@ -63,13 +63,22 @@ fi
 echo 'With each request for memory refused in turn:'
 "$made/memory" "$here/../examples/walk"
 
-# The second program of docs/C.md, over the presentation of RFC 9901.
+# The programs of docs/C.md over OpenSSL: the second of the page verifies, and the third issues.
+block() { sed -n '/^```c$/,/^```$/p' "$here/../docs/C.md" | awk -v at="$1" '/^```c$/ { n++ } !/^```/ && n == at'; }
+block 2 >"$made/public.c"
+block 3 >"$made/signed.c"
 if echo '#include <openssl/evp.h>' | "$CC" -E - >/dev/null 2>&1; then
-    sed -n '/^```c$/,/^```$/p' "$here/../docs/C.md" | awk '/^```c$/ { block++ } !/^```/ && block == 2' >"$made/public.c"
     # shellcheck disable=SC2086 # words
     for how in '-fsanitize=address,undefined -fno-sanitize-recover=all' ''; do
-        "$CC" $strict $how -I"$here/out/include" "$made/public.c" "$lib/libsdjwt.a" -lcrypto -o "$made/public"
+        for name in public signed; do
+            "$CC" $strict $how -I"$here/out/include" "$made/$name.c" "$lib/libsdjwt.a" -lcrypto -o "$made/$name"
+        done
         python3 "$here/tests/letters.py" ${how:+--step 101} "$made/public" "$here/../vectors/rfc9901"
+        if command -v openssl >/dev/null; then
+            python3 "$here/tests/issued.py" "$made/signed"
+        else
+            echo 'skipped: tokens that are signed by OpenSSL (no openssl)'
+        fi
     done
 else
     echo 'skipped: signatures by OpenSSL (no libssl-dev)'

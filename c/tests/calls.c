@@ -336,7 +336,8 @@ static void signing(void) {
     for (size_t i = 0; i < sizeof signings / sizeof *signings; i++) {
         const uint8_t *order = (const uint8_t *)signings[i].order, *alg = (const uint8_t *)signings[i].alg;
         size_t order_len = strlen(signings[i].order), alg_len = strlen(signings[i].alg), seed_len = signings[i].seed_len;
-        for (int which = 0; which < 8; which++) {
+        int calls = signings[i].signature_len == TOO_LONG ? 2 : 8;
+        for (int which = 0; which < calls; which++) {
             const char *text = which % 2 ? signings[i].token : signings[i].text;
             size_t due = strlen(text), sizes[] = {due, due + BEHIND, due ? due - 1 : 0, 0}, room = sizes[which / 2], len = 12345;
             memset(out, FILL, sizeof out);
