@@ -19,6 +19,7 @@ TOKEN = sdjwt.issue(ORDER)
 # Each call that takes such an argument, with the others as they should be.
 OF_FILES = {
     "issue order": lambda given: sdjwt.issue(given),
+    "issue order, signed apart": lambda given: sdjwt.issue(given, sign=lambda text: b"signed", alg="ES256"),
     "present order": lambda given: sdjwt.present(given, TOKEN),
     "verify policy": lambda given: sdjwt.verify(given, TOKEN),
     "Policy policy": sdjwt.Policy,
