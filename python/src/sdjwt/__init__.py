@@ -91,7 +91,7 @@ def issue(
     cryptography, or a function that is given the bytes to sign and answers the signature. A key of P-256, P-384, P-521 or Ed25519
     signs by ES256, ES384, ES512 or EdDSA. For one of RSA `alg` names the algorithm: PS256, PS384, PS512, RS256, RS384 or RS512.
     For a function `alg` names its algorithm, and the signature is the one that a JWS has: of ES256 the 64 bytes of r and s, and
-    not the DER that many a vault answers. It is asked once, and only for an order that is not refused.
+    not the DER that many a vault answers. It is asked once, and not for an order that 51 to 60 refuse.
 
     >>> def vault(text):
     ...     return bytes(64)                # the signature that your vault makes of these bytes
