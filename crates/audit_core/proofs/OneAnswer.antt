@@ -39,13 +39,13 @@ module _ (order_file token_file : List ℕ) where
 
   one_no : (a b : List ℕ) → SaysNo order_file token_file a → SaysNo order_file token_file b → a ≡ b
   one_no a b g h =
-      let fails = of_asked order_file g.order h.order g.key h.key g.asks h.asks (λ (o : Order) (k : AlgKey). FailsAudit o k.alg (IsGood k) token_file g.error) g.fails in
+      let fails = of_asked order_file g.order h.order g.key h.key g.asks h.asks (λ (o : Order) (k : AlgKey). FailsAudit o (alg_text k.alg) (IsGood k) token_file g.error) g.fails in
       let same : g.error ≡ h.error = (one_verdict h.order (alg_text h.key.alg) (IsGood h.key) token_file).one_error g.error h.error fails h.fails in
       g.line_is ∙ (ap (λ (e : AuditError). line (audit_refusal_text e)) same ∙ sym h.line_is)
 
   yes_not_no : (a b : List ℕ) → SaysYes order_file token_file a → SaysNo order_file token_file b → ⊥
   yes_not_no a b g h =
-      let passes = of_asked order_file g.order h.order g.key h.key g.asks h.asks (λ (o : Order) (k : AlgKey). PassesAudit o k.alg (IsGood k) token_file) g.passes in
+      let passes = of_asked order_file g.order h.order g.key h.key g.asks h.asks (λ (o : Order) (k : AlgKey). PassesAudit o (alg_text k.alg) (IsGood k) token_file) g.passes in
       (one_verdict h.order (alg_text h.key.alg) (IsGood h.key) token_file).not_both h.error passes h.fails
 
   pub one_answer : (v w : Reply) → AuditAnswers order_file token_file v → AuditAnswers order_file token_file w → v ≡ w
