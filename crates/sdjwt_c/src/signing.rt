@@ -25,9 +25,9 @@ use std::alloc::Global;
 
 // The name of an algorithm: a text, but neither the empty one nor `none`.
 fn alg_name(bytes: &[u8]) -> Option<&str>
-    ensures named { IfSome result (λ name. name.now ≡ bytes.entry) }
-    ensures a_name { IfSome result (λ _. IsNoAlgName bytes.entry → ⊥) }
-    ensures none { result ≡ None → IsNoAlgName bytes.entry }
+    ensures named { IfSome result (λ name. name.now ≡ bytes.now) }
+    ensures a_name { IfSome result (λ _. IsNoAlgName bytes.now → ⊥) }
+    ensures none { result ≡ None → IsNoAlgName bytes.now }
 {
     match str::from_utf8(bytes) {
         Ok("" | "none") => None,

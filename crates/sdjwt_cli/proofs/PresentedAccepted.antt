@@ -25,7 +25,7 @@ use Rattle.key_binding.specs.Binding.{IsBinding, IsReadBack}
 use Rattle.key_binding.specs.BindingConditions.{BindingFails}
 use Rattle.key_binding.specs.declared.policy.BindingPolicy.{BindingPolicy}
 use Rattle.key_binding.specs.Judged.{judged, holder_kid, holder_key, BindingRules, binding_rules}
-use Rattle.key_binding.proofs.Accepted.{accepted}
+use Rattle.key_binding.proofs.Accepted.{accepted_by_key}
 use Rattle.marked_tree.specs.Paths.{chosen}
 use Rattle.marked_tree.specs.Marked.{Marked, strip}
 use Rattle.marked_tree.specs.Laws.{HasEachMarkOnce}
@@ -169,7 +169,7 @@ module _ (seed : List ℕ) (o : Order) (key : AlgKey) (parts : Parts) (is : IsTo
         let read_back = subst (λ (x : Text). IsReadBack (codes "HS256") o.hash (hashed answer) suit.ask.aud x now fails.token) suit.nonce made.read_back in
         let kid : holder_kid payload ≡ Some suit.ask.kid = ap holder_kid shown ∙ names_ask ask.binding suit.ask presented.names suit.asked_for in
         let found : holder_key b.keys payload ≡ Some signing = ap (option_and_then (key_named b.keys)) kid ∙ suit.known in
-        accepted b.keys signing suit.ask.aud now j is_binding read_back suit.aud refl found suit.not_stale suit.not_early c place
+        accepted_by_key b.keys signing suit.ask.aud now j is_binding read_back suit.aud refl found suit.not_stale suit.not_early c place
         (subst (λ (r : BindingRules). BindingFails (judged fails.token payload r policy.skew o.hash (hashed answer) later) c place) rules_are fails.fails)
 
     hash_passes : (payload : Tree) (hash : HashAlg) → HasHash (alone answer) hash → payload ≡ shown_for (marked_claims o) ask.want → (c : Condition) (place : Place) → HolderFails answer payload hash (demands_of policy) later c place → ⊥
