@@ -8,9 +8,9 @@ use Rattle.sdjwt_c.proofs.signing.sdjwt_issue_sign.Goals as goal
 pub returns-in-Some : goal.returns-in-Some
 returns-in-Some c =
     let Misused : Type 0 = (c.args.signature.now ≡ []) ⊎ IsNoAlgName c.args.alg.now in
-    let Named : List ℕ → Type 0 = λ alg. HandsBy Misused (SignsToken c.args.order.now alg c.args.seed.now c.args.signature.now) c.args.room.now c.hand.new.room c.hand.new.len c.number.result in
+    let Named : List ℕ → Type 0 = λ alg. HandsBy Misused (SignsToken c.args.order.now alg c.args.seed.now c.args.signature.now) c.args.room.now c.hand.new.room c.hand.new.len c.number-in-Some.result in
     let some = c.signed_token.requires.some in
     let kept : Misused → ⊥ = ⊎_elim (λ none. omega (arith, some, ap length none)) c.in-Some.ensures.a_name in
     subst Named c.in-Some.ensures.named
-    (handed Misused kept (SignsToken c.args.order.now c.in-Some.alg.now c.args.seed.now c.args.signature.now) c.args.room.now c.hand.new.room c.hand.new.len c.number.result c.hand.result c.number.ensures
+    (handed Misused kept (SignsToken c.args.order.now c.in-Some.alg.now c.args.seed.now c.args.signature.now) c.args.room.now c.hand.new.room c.hand.new.len c.number-in-Some.result c.hand.result c.number-in-Some.ensures
     c.signed_token.result c.signed_token.ensures.gives c.signed_token.ensures.refuses c.signed_token.ensures.unreadable c.signed_token.ensures.read c.hand.ensures)
