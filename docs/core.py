@@ -260,16 +260,9 @@ def totals(core, where):
     return sum(len(row[2]) for row in rows), sum(lines_of(row[2]) for row in rows), len(rows)
 
 
-# What the libraries promise to who signs elsewhere, which the program never does. These say what they hold at once.
-OF_LIBRARIES = {
-    ("hmac_sign", "SignedJwt"), ("key_binding", "Trusted"), ("issuer_core", "ToSign"), ("issuer_core", "UnsignedOrder"),
-    ("holder_core", "ToSign"),
-}
-
-
 def mistold(core):
     """The modules of specs/ that are of the core and say that they are not, or are not and do not say so."""
-    inside = {(crate, module) for crate, module, _, _ in core.modules()} | OF_LIBRARIES
+    inside = {(crate, module) for crate, module, _, _ in core.modules()}
     for crate in CRATES:
         for path in sorted((TOP / "crates" / crate / "specs").glob("*.antt")):
             says_so = path.read_text(encoding="utf-8").startswith(("-- For ", "-- Not needed to believe "))

@@ -1,4 +1,4 @@
--- A JWT and what was signed of it, RFC 7515 section 5.1.
+-- Not needed to believe the program's promises: a JWT and what was signed of it, RFC 7515 section 5.1.
 use Rattle.std.specs.Prelude.{◌≡◌, ◌<◌, ℕ, List, length}
 use Rattle.b64url_text.specs.Base64url.{b64}
 use Rattle.compact_form.specs.declared.parts.JwtParts.{JwtParts}

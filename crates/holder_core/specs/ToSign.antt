@@ -1,5 +1,5 @@
--- Presenting in two steps, where a caller checks the issuer's signature and makes the holder's: what is asked, what is to be signed,
--- and what is presented then.
+-- Not needed to believe the program's promises: presenting in two steps, where a caller checks the issuer's
+-- signature and makes the holder's: what is asked, what is to be signed, and what is presented then.
 use Rattle.std.specs.Prelude.{◌≡◌, ◌<◌, ℕ, List, length, None, Some, Option, Result, Ok, Err}
 use Rattle.claim_tree.specs.Tree.{Text}
 use Rattle.claim_tree.specs.View.{tree_of}

@@ -1,4 +1,5 @@
--- Issuing in two steps: what is to be signed for an order, and the token with a signature of anyone.
+-- Not needed to believe the program's promises: issuing in two steps, what is to be signed for an order,
+-- and the token with a signature of anyone.
 use Rattle.std.specs.Prelude.{◌≡◌, ℕ, ◌+◌, ◌<◌, List, length, None}
 use Rattle.std.specs.List.{AllByRecursion}
 use Rattle.b64url_text.specs.Base64url.{IsWord, b64}

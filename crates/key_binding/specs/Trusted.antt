@@ -1,4 +1,4 @@
--- Whose key binding tokens a verifier trusts.
+-- Not needed to believe the program's promises: whose key binding tokens a verifier trusts.
 use Rattle.std.specs.Prelude.{◌≡◌, ℕ, List, Some, codes}
 use Rattle.claim_tree.specs.Tree.{Text, Tree}
 use Rattle.hmac_sign.specs.Hmac.{IsGood, hs256_key}
