@@ -25,18 +25,32 @@ pub record PassesAudit (o : Order) (alg : Text) (accepts : Meaning) (content : T
 -- the first that is not so of what is written
 pub data ContentDiffers (o : Order) (payload : Tree) (given : List Given) (k : ℕ) : Type 0 where
   claims_differ : k ≡ 3 → (ShowsClaims o payload given → ⊥) → ContentDiffers o payload given k
-  digests_differ : k ≡ 4 → ShowsClaims o payload given → (HasDigests o payload given → ⊥) → ContentDiffers o payload given k
-  decoys_differ : k ≡ 5 → ShowsClaims o payload given → HasDigests o payload given → (HasDecoys o payload given → ⊥) → ContentDiffers o payload given k
-  order_differs : k ≡ 6 → ShowsClaims o payload given → HasDigests o payload given → HasDecoys o payload given → (HasSortedDigests payload given → ⊥) → ContentDiffers o payload given k
+  digests_differ : k ≡ 4 → ShowsClaims o payload given → (HasDigests o payload given → ⊥)
+      → ContentDiffers o payload given k
+  decoys_differ : k ≡ 5 → ShowsClaims o payload given → HasDigests o payload given
+      → (HasDecoys o payload given → ⊥) → ContentDiffers o payload given k
+  order_differs : k ≡ 6 → ShowsClaims o payload given → HasDigests o payload given
+      → HasDecoys o payload given → (HasSortedDigests payload given → ⊥)
+      → ContentDiffers o payload given k
 
--- the first of the six that is not so of the token: of how it is signed and written, and then of what is written
-pub data DiffersIn (o : Order) (alg : Text) (accepts : Meaning) (token : Token) (k : ℕ) : Type 0 where
+-- the first of the six that is not so of the token: of how it is signed and
+-- written, and then of what is written
+pub data DiffersIn (o : Order) (alg : Text) (accepts : Meaning) (token : Token) (k : ℕ)
+    : Type 0 where
   signed_differs : k ≡ 1 → (IsSignedFor o alg accepts token → ⊥) → DiffersIn o alg accepts token k
-  written_differs : k ≡ 2 → IsSignedFor o alg accepts token → ((body : Tree) (given : List Given) → IsWrittenFor o token.parts body given → ⊥) → DiffersIn o alg accepts token k
-  content_differs : IsSignedFor o alg accepts token → (body : Tree) (given : List Given) → IsWrittenFor o token.parts body given → ContentDiffers o (without_alg body) given k → DiffersIn o alg accepts token k
+  written_differs : k ≡ 2 → IsSignedFor o alg accepts token
+      → ((body : Tree) (given : List Given) → IsWrittenFor o token.parts body given → ⊥)
+      → DiffersIn o alg accepts token k
+  content_differs : IsSignedFor o alg accepts token → (body : Tree) (given : List Given)
+      → IsWrittenFor o token.parts body given → ContentDiffers o (without_alg body) given k
+      → DiffersIn o alg accepts token k
 
 -- this refuses the text, and nothing before it does
-pub data FailsAudit (o : Order) (alg : Text) (accepts : Meaning) (content : Text) (error : AuditError) : Type 0 where
-  of_order : (refusal : IssueError) → IsLowestRefusal (AppliesToOrder o) refusal → error ≡ OnOrder (issue_number refusal) → FailsAudit o alg accepts content error
-  of_text : (fault : Fault) → NoneApplies (AppliesToOrder o) → IsTextRefused content fault → error ≡ OnCondition fault → FailsAudit o alg accepts content error
-  of_part : (token : Token) (k : ℕ) → NoneApplies (AppliesToOrder o) → IsToken content token → DiffersIn o alg accepts token k → error ≡ Part k → FailsAudit o alg accepts content error
+pub data FailsAudit (o : Order) (alg : Text) (accepts : Meaning) (content : Text)
+    (error : AuditError) : Type 0 where
+  of_order : (refusal : IssueError) → IsLowestRefusal (AppliesToOrder o) refusal
+      → error ≡ OnOrder (issue_number refusal) → FailsAudit o alg accepts content error
+  of_text : (fault : Fault) → NoneApplies (AppliesToOrder o) → IsTextRefused content fault
+      → error ≡ OnCondition fault → FailsAudit o alg accepts content error
+  of_part : (token : Token) (k : ℕ) → NoneApplies (AppliesToOrder o) → IsToken content token
+      → DiffersIn o alg accepts token k → error ≡ Part k → FailsAudit o alg accepts content error

@@ -1,4 +1,5 @@
--- Not needed to believe the program's promises: what an audit answers, and how many digests it looks up.
+-- Not needed to believe the program's promises: what an audit answers, and how
+-- many digests it looks up.
 use Rattle.std.specs.Prelude.{◌≡◌, ◌⊎◌, ◌≤◌, ℕ, List}
 use Rattle.claim_tree.specs.Tree.{Text, Tree}
 use Rattle.digest_sites.specs.Given.{Given}
@@ -29,4 +30,7 @@ IsBeforeOpening (Part k) = k ≤ 2
 abbrev pub IsAuditedWithin : Order → Text → ℕ → ℕ → Type 0
 IsAuditedWithin o content old new =
     (new ≡ old)
-    ⊎ ((token : Token) × IsToken content token × (body : Tree) × (given : List Given) × IsWrittenFor o token.parts body given × RoseWithin (look_ups (without_alg body) given) old new)
+    ⊎
+    ((token : Token) × IsToken content token × (body : Tree) × (given : List Given)
+    × IsWrittenFor o token.parts body given
+    × RoseWithin (look_ups (without_alg body) given) old new)

@@ -19,9 +19,9 @@ use Rattle.issuer_core.specs.Written.{IsIssued}
 use Rattle.audit_core.specs.declared.errors.AuditError.{AuditError}
 use Rattle.audit_core.specs.Audit.{PassesAudit, FailsAudit}
 
--- what is issued with any seed for an order that nothing of 51 to 59 refuses, with a signature of bytes, passes the audit,
--- where its compact text is read as a token; texts and names of the claims are UTF-8, as a machine holds them, since JSON with
--- others is not read
+-- what is issued with any seed for an order that nothing of 51 to 59 refuses, with a signature of
+-- bytes, passes the audit, where its compact text is read as a token; texts and names of the claims
+-- are UTF-8, as a machine holds them, since JSON with others is not read
 abbrev pub IssuedPasses : Text → Meaning → Type 0
 IssuedPasses alg good =
     (seed : List ℕ) (o : Order) (parts : Parts)
@@ -35,9 +35,13 @@ KeyIssuedPasses key =
     (seed : List ℕ) (o : Order) (parts : Parts)
     → NoneApplies (AppliesToOrder o) → IsOrdered o.payload → EachText IsUtf8 o.payload
     → IsIssued (maker_of seed) o (alg_text key.alg) (IsGood key) parts
-    → IsToken (compact parts) (alone parts) → PassesAudit o (alg_text key.alg) (IsGood key) (compact parts)
+    → IsToken (compact parts) (alone parts)
+    → PassesAudit o (alg_text key.alg) (IsGood key) (compact parts)
 
 -- a text passes, or one thing refuses it
-pub record HasOneVerdict (o : Order) (alg : Text) (accepts : Meaning) (content : Text) : Type 0 where
-  pub not_both : (error : AuditError) → PassesAudit o alg accepts content → FailsAudit o alg accepts content error → ⊥
-  pub one_error : (error other : AuditError) → FailsAudit o alg accepts content error → FailsAudit o alg accepts content other → error ≡ other
+pub record HasOneVerdict (o : Order) (alg : Text) (accepts : Meaning) (content : Text)
+    : Type 0 where
+  pub not_both : (error : AuditError) → PassesAudit o alg accepts content
+      → FailsAudit o alg accepts content error → ⊥
+  pub one_error : (error other : AuditError) → FailsAudit o alg accepts content error
+      → FailsAudit o alg accepts content other → error ≡ other

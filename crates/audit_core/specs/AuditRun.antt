@@ -35,7 +35,9 @@ pub record SaysNo (order_file token_file text : List ℕ) : Type 0 where
 
 -- or the order file is not of its form
 abbrev pub AuditAnswers : List ℕ → List ℕ → Reply → Type 0
-AuditAnswers order_file token_file reply = Replies (SaysYes order_file token_file) (SaysNo order_file token_file) (TellsFileFault (IsOrderFileRefused order_file)) reply
+AuditAnswers order_file token_file reply =
+    Replies (SaysYes order_file token_file) (SaysNo order_file token_file)
+    (TellsFileFault (IsOrderFileRefused order_file)) reply
 
 -- ---- over what the cabinet holds
 
@@ -44,7 +46,8 @@ abbrev pub IsAudit : List (List ℕ) → List ℕ → List ℕ → Type 0
 IsAudit words order token = words ≡ codes "audit" ∷ order ∷ token ∷ []
 
 -- the reply over the files with these names
-pub record AuditsFiles (holds : List ℕ → Option (List ℕ)) (order token : List ℕ) (reply : Reply) : Type 0 where
+pub record AuditsFiles (holds : List ℕ → Option (List ℕ)) (order token : List ℕ) (reply : Reply)
+    : Type 0 where
   pub order_file : List ℕ
   pub token_file : List ℕ
   pub order_fetched : IsFetched holds order order_file
@@ -54,4 +57,6 @@ pub record AuditsFiles (holds : List ℕ → Option (List ℕ)) (order token : L
 -- the words ask for an order file and a token file, by their names
 abbrev pub AuditEnds : List (List ℕ) → Outside → Outside → Status → Type 0
 AuditEnds words before after status =
-    RunEnds {Asked = List ℕ × List ℕ} (λ names. IsAudit words names.0 names.1) (λ names reply. AuditsFiles before.holds names.0 names.1 reply) (λ names word missed. MissesWord (names.0 ∷ names.1 ∷ []) word missed) before after status
+    RunEnds {Asked = List ℕ × List ℕ} (λ names. IsAudit words names.0 names.1)
+    (λ names reply. AuditsFiles before.holds names.0 names.1 reply)
+    (λ names word missed. MissesWord (names.0 ∷ names.1 ∷ []) word missed) before after status

@@ -40,14 +40,16 @@ IsUnsalted disclosure = (name : Option Text) (value : Tree) → IsSaltedText dis
 
 -- one of the texts is none
 abbrev pub HasUnsalted : HashAlg → List Text → Type 0
-HasUnsalted hash disclosures = (given : List Given) → AllZip (GivesSalted hash) disclosures given → ⊥
+HasUnsalted hash disclosures =
+    (given : List Given) → AllZip (GivesSalted hash) disclosures given → ⊥
 
 -- the text is not that of a payload that names the hash
 abbrev pub IsOtherPayload : HashAlg → Text → Type 0
 IsOtherPayload hash payload = (body : Tree) → IsWrittenAs payload body → NamesHash hash body → ⊥
 
 -- the payload names the hash, and there are so many disclosures
-pub record IsWrittenWith (hash : HashAlg) (hidden : ℕ) (parts : Parts) (body : Tree) (given : List Given) : Type 0 where
+pub record IsWrittenWith (hash : HashAlg) (hidden : ℕ) (parts : Parts) (body : Tree)
+    (given : List Given) : Type 0 where
   pub payload : IsWrittenAs parts.signed.payload body
   pub alg : NamesHash hash body
   pub count : length parts.disclosures ≡ hidden
@@ -56,7 +58,9 @@ pub record IsWrittenWith (hash : HashAlg) (hidden : ℕ) (parts : Parts) (body :
 -- the look-ups of a token, where it is written as it is to be
 abbrev pub IsTokenWithin : Order → Token → ℕ → ℕ → Type 0
 IsTokenWithin o token old new =
-    (new ≡ old) ⊎ ((body : Tree) × (given : List Given) × IsWrittenFor o token.parts body given × RoseWithin (look_ups (without_alg body) given) old new)
+    (new ≡ old)
+    ⊎ ((body : Tree) × (given : List Given) × IsWrittenFor o token.parts body given
+    × RoseWithin (look_ups (without_alg body) given) old new)
 
 -- the part that differs; want of memory says nothing
 abbrev pub OnPart : AuditError → (ℕ → Type 0) → Type 0
@@ -68,7 +72,8 @@ OnPart (Part k) Differs = Differs k
 -- a refused order; want of memory says nothing
 abbrev pub OnOrderRefused : AuditError → Order → Type 0
 OnOrderRefused Memory o = Unit {0}
-OnOrderRefused (OnOrder k) o = (refusal : IssueError) × IsLowestRefusal (AppliesToOrder o) refusal × (k ≡ issue_number refusal)
+OnOrderRefused (OnOrder k) o =
+    (refusal : IssueError) × IsLowestRefusal (AppliesToOrder o) refusal × (k ≡ issue_number refusal)
 OnOrderRefused (OnCondition fault) o = ⊥
 OnOrderRefused (Part k) o = ⊥
 

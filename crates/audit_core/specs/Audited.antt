@@ -1,4 +1,5 @@
--- What a token is to be for an order, as who has no seed can tell (RFC 9901 section 4): what is issued, with any salts.
+-- What a token is to be for an order, as who has no seed can tell (RFC 9901
+-- section 4): what is issued, with any salts.
 use Rattle.std.specs.Prelude.{◌≡◌, ℕ, suc, ◌+◌, List, [], ◌∷◌, ◌++◌, map, length, not, Bool, ◌&&◌, filter, Option, Some, None, codes, decimal, bytes_eq, true, false}
 use Rattle.std.specs.List.{AllZip, count_by, list_any}
 use Rattle.b64url_text.specs.Base64url.{b64, Decodes}
@@ -31,9 +32,11 @@ use Rattle.issuer_core.specs.Written.{header_of}
 
 -- ---- 1: what is signed
 
--- the header says what the order asks for, the signature is one that is accepted, and nothing stands beside
+-- the header says what the order asks for, the signature is one that is
+-- accepted, and nothing stands beside
 pub record IsSignedFor (o : Order) (alg : Text) (accepts : Meaning) (token : Token) : Type 0 where
-  pub protected : token.parts.signed.protected ≡ b64 (json_text (object (header_members (header_of alg o))))
+  pub protected : token.parts.signed.protected
+      ≡ b64 (json_text (object (header_members (header_of alg o))))
   pub signature : List ℕ
   pub signature_text : Decodes token.parts.signed.signature signature
   pub signed : accepts token.parts.signed.protected token.parts.signed.payload signature
@@ -42,7 +45,8 @@ pub record IsSignedFor (o : Order) (alg : Text) (accepts : Meaning) (token : Tok
 
 -- ---- 2: how it is written
 
--- the text is that of the compact JSON of the tree, and is read as this tree, so it nests at most 127 deep
+-- the text is that of the compact JSON of the tree, and is read as this tree,
+-- so it nests at most 127 deep
 pub record IsWrittenAs (part : Text) (t : Tree) : Type 0 where
   pub written : part ≡ b64 (json_text t)
   pub carried : Carries part t
@@ -61,7 +65,8 @@ pub record GivesSalted (hash : HashAlg) (disclosure : Text) (given : Given) : Ty
   pub salted : IsSaltedText disclosure given.name given.value
 
 -- the payload names the hash of the order, and there is a disclosure for each hidden place
-pub record IsWrittenFor (o : Order) (parts : Parts) (body : Tree) (given : List Given) : Type 0 where
+pub record IsWrittenFor (o : Order) (parts : Parts) (body : Tree) (given : List Given)
+    : Type 0 where
   pub payload : IsWrittenAs parts.signed.payload body
   pub alg : get body (codes "_sd_alg") ≡ Some (leaf (text (hash_name o.hash)))
   pub count : length parts.disclosures ≡ hidden_of o
@@ -69,7 +74,8 @@ pub record IsWrittenFor (o : Order) (parts : Parts) (body : Tree) (given : List 
 
 -- ---- 3: what it shows
 
--- no condition of 14 to 21 fails, and payload and disclosures together show the claims, each disclosure at its place
+-- no condition of 14 to 21 fails, and payload and disclosures together show the
+-- claims, each disclosure at its place
 pub record ShowsClaims (o : Order) (payload : Tree) (given : List Given) : Type 0 where
   pub sound : IsSound payload given
   pub opens : processed payload given ≡ marked_claims o
@@ -92,16 +98,20 @@ pub record IsDigestText (hash : HashAlg) (digest : Text) : Type 0 where
 abbrev pub is_given : List Given → Text → Bool
 is_given given digest = list_any (bytes_eq digest) (given_digests given)
 
--- those of the disclosures and as many others as the order has decoys, each once; of what the others are made none can tell
+-- those of the disclosures and as many others as the order has decoys, each
+-- once; of what the others are made none can tell
 pub record HasDigests (o : Order) (payload : Tree) (given : List Given) : Type 0 where
   pub count : length (all_digests payload given) ≡ hidden_of o + length (decoys_of o)
   pub differ : AtNone (Repeats (all_digests payload given))
-  pub each : (digest : Text) → In digest (given_digests given) → In digest (all_digests payload given)
-  pub others : (digest : Text) → In digest (all_digests payload given) → is_given given digest ≡ false → IsDigestText o.hash digest
+  pub each : (digest : Text) → In digest (given_digests given)
+      → In digest (all_digests payload given)
+  pub others : (digest : Text) → In digest (all_digests payload given)
+      → is_given given digest ≡ false → IsDigestText o.hash digest
 
 -- ---- 5: the places of its decoys
 
--- where a digest stands in the claims: among the members of the object there, or as the element there
+-- where a digest stands in the claims: among the members of the object there,
+-- or as the element there
 pub record Standing : Type 0 where
   pub kind : SiteKind
   pub at : Path
@@ -120,18 +130,23 @@ same_standing x y = same_kind x.kind y.kind && same_path x.at y.at
 -- where the digests stand that are of no disclosure
 abbrev pub decoys_found : Marked → Tree → List Given → List Standing
 decoys_found m payload given =
-    map (λ (x : OwnedSite). standing x.site.kind (origin m x)) (filter (λ (x : OwnedSite). not (is_given given x.site.digest)) (all_sites payload given))
+    map (λ (x : OwnedSite). standing x.site.kind (origin m x))
+    (filter (λ (x : OwnedSite). not (is_given given x.site.digest)) (all_sites payload given))
 
--- where a decoy is put, of which so many earlier ones have the place: an object has it among its `_sd`, a list behind its own elements
+-- where a decoy is put, of which so many earlier ones have the place: an object has it among its
+-- `_sd`, a list behind its own elements
 abbrev pub decoy_standing : Path → ℕ → Option Tree → List Standing
 decoy_standing at many (Some (object ms)) = standing Member at ∷ []
-decoy_standing at many (Some (array es)) = standing Element (at ++ decimal (elements_len es + many) ∷ []) ∷ []
+decoy_standing at many (Some (array es)) =
+    standing Element (at ++ decimal (elements_len es + many) ∷ []) ∷ []
 decoy_standing at many _ = []
 
 -- the same of some decoys, where the first has the number d among all
 abbrev pub standings_from : Tree → List Path → ℕ → List Path → List Standing
 standings_from claims all d [] = []
-standings_from claims all d (at ∷ decoys) = decoy_standing at (earlier d at all) (tree_at claims at) ++ standings_from claims all (suc d) decoys
+standings_from claims all d (at ∷ decoys) =
+    decoy_standing at (earlier d at all) (tree_at claims at)
+    ++ standings_from claims all (suc d) decoys
 
 abbrev pub decoys_wanted : Order → List Standing
 decoys_wanted o = standings_from o.payload (decoys_of o) 0 (decoys_of o)
@@ -141,7 +156,8 @@ abbrev pub IsEachAsOften : List Standing → List Standing → Type 0
 IsEachAsOften xs ys = (x : Standing) → count_by (same_standing x) xs ≡ count_by (same_standing x) ys
 
 abbrev pub HasDecoys : Order → Tree → List Given → Type 0
-HasDecoys o payload given = IsEachAsOften (decoys_found (marked_claims o) payload given) (decoys_wanted o)
+HasDecoys o payload given =
+    IsEachAsOften (decoys_found (marked_claims o) payload given) (decoys_wanted o)
 
 -- ---- 6: the order of its digests
 
@@ -152,7 +168,8 @@ pub record HasSortedDigests (payload : Tree) (given : List Given) : Type 0 where
 
 -- ---- all of it
 
--- the token is what the order asks for, with this payload, without its `_sd_alg`, and these disclosures
+-- the token is what the order asks for, with this payload, without its
+-- `_sd_alg`, and these disclosures
 pub record IsAuditedFor (o : Order) (payload : Tree) (given : List Given) : Type 0 where
   pub shows : ShowsClaims o payload given
   pub digests : HasDigests o payload given

@@ -21,7 +21,8 @@ abbrev mutual
 
   pub members_count : Members → ℕ
   members_count no_members = 0
-  members_count (member name t ms) = (if bytes_eq name sd_name then 0 else count_in t) + members_count ms
+  members_count (member name t ms) =
+      (if bytes_eq name sd_name then 0 else count_in t) + members_count ms
 
 -- those of the values of disclosures
 abbrev pub values_count : List Given → ℕ

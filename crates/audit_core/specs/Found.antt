@@ -22,8 +22,10 @@ is_in keys digest = list_any (λ (key : Bor Text). bytes_eq digest key.now) keys
 
 -- ---- the sites whose digests are of no disclosure
 
--- these are they, each at its place in the claims: those of the payload, and then those of the values, each behind those inside it
-pub record AreOthers (claims : Marked) (payload : Tree) (given : List Given) (others : List Site) : Type 0 where
+-- these are they, each at its place in the claims: those of the payload, and
+-- then those of the values, each behind those inside it
+pub record AreOthers (claims : Marked) (payload : Tree) (given : List Given) (others : List Site)
+    : Type 0 where
   pub known : Text → Bool
   pub same : (digest : Text) → known digest ≡ is_given given digest
   pub are : others ≡ strange_at known [] payload ++ values_at known given [] claims

@@ -1,5 +1,5 @@
--- For private functions: the sites of values whose digests are not known, each value at the node with its mark, as they are
--- listed on a walk of the claims.
+-- For private functions: the sites of values whose digests are not known, each value at the node
+-- with its mark, as they are listed on a walk of the claims.
 use Rattle.std.specs.Prelude.{ℕ, suc, List, [], ◌∷◌, ◌++◌, Bool, Option, Some, None, decimal, slice_get}
 use Rattle.claim_tree.specs.Tree.{Text}
 use Rattle.digest_sites.specs.Given.{Given}
@@ -34,9 +34,12 @@ abbrev mutual
   pub elements_values : (Text → Bool) → List Given → Path → ℕ → MarkedElements → List Site
   elements_values known given at n no_marked_elements = []
   elements_values known given at n (marked_element i t es) =
-      (values_at known given (at ++ decimal n ∷ []) t ++ value_at known given (at ++ decimal n ∷ []) i) ++ elements_values known given at (suc n) es
+      (values_at known given (at ++ decimal n ∷ []) t
+      ++ value_at known given (at ++ decimal n ∷ []) i)
+      ++ elements_values known given at (suc n) es
 
   pub members_values : (Text → Bool) → List Given → Path → MarkedMembers → List Site
   members_values known given at no_marked_members = []
   members_values known given at (marked_member k i t ms) =
-      (values_at known given (at ++ k ∷ []) t ++ value_at known given (at ++ k ∷ []) i) ++ members_values known given at ms
+      (values_at known given (at ++ k ∷ []) t ++ value_at known given (at ++ k ∷ []) i)
+      ++ members_values known given at ms

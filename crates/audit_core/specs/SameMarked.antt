@@ -30,10 +30,12 @@ abbrev mutual
 
   pub same_elements : MarkedElements → MarkedElements → Bool
   same_elements no_marked_elements no_marked_elements = true
-  same_elements (marked_element i t es) (marked_element j u fs) = same_mark i j && (same_marked t u && same_elements es fs)
+  same_elements (marked_element i t es) (marked_element j u fs) =
+      same_mark i j && (same_marked t u && same_elements es fs)
   same_elements _ _ = false
 
   pub same_members : MarkedMembers → MarkedMembers → Bool
   same_members no_marked_members no_marked_members = true
-  same_members (marked_member k i t ms) (marked_member l j u ns) = bytes_eq k l && (same_mark i j && (same_marked t u && same_members ms ns))
+  same_members (marked_member k i t ms) (marked_member l j u ns) =
+      bytes_eq k l && (same_mark i j && (same_marked t u && same_members ms ns))
   same_members _ _ = false

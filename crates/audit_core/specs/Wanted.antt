@@ -19,7 +19,8 @@ member_texts at count = replicate count (standing_text (standing Member at))
 -- those of a list, from this position on
 abbrev pub element_texts : Path → ℕ → ℕ → List Text
 element_texts at first zero = []
-element_texts at first (suc count) = standing_text (standing Element (at ++ decimal first ∷ [])) ∷ element_texts at (suc first) count
+element_texts at first (suc count) =
+    standing_text (standing Element (at ++ decimal first ∷ [])) ∷ element_texts at (suc first) count
 
 -- so many at a place, which has so many earlier ones
 abbrev pub entry_texts : Path → ℕ → ℕ → Option Tree → List Text

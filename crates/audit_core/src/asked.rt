@@ -29,8 +29,8 @@ pub(crate) struct Asked {
     pub(crate) standings: Vec<TextBox>,
 }
 
-// What an order asks for that nothing refuses, whose hidden places are told once more, each once. Its claims are not
-// copied.
+// What an order asks for that nothing refuses, whose hidden places are told
+// once more, each once. Its claims are not copied.
 pub(crate) fn asked_of(alloc: Global, order: Order, places: PathList) -> Result<Asked, NoMemory>
     requires depth { depth_of (tree_of order.payload) ≤ json_depth_max }
     requires same { (path : Path) → is_among places path ≡ is_among order.hide path }

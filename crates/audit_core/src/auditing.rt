@@ -42,7 +42,8 @@ use std::alloc::Global;
 // Refusal 80: the order itself is refused. Else the places that it hides, each once.
 fn judge_order(alloc: Global, order: &Order) -> Result<PathList, AuditError>
     requires { depth_of (tree_of order.now.payload) ≤ json_depth_max }
-    ensures same { IfOk result (λ places. (path : Path) → is_among places path ≡ is_among order.now.hide path) }
+    ensures same { IfOk result
+        (λ places. (path : Path) → is_among places path ≡ is_among order.now.hide path) }
     ensures few { IfOk result (λ places. length places ≤ count_max) }
     ensures passes { IfOk result (λ _. NoneApplies (AppliesToOrder (order_of order.now))) }
     ensures refused { IfErr result (λ e. OnOrderRefused e (order_of order.now)) }
@@ -63,8 +64,9 @@ fn order_error(error: &IssueError) -> AuditError
     }
 }
 
-// The digests of no disclosure: what part 4 says of them, and part 5. They are counted, so an order without decoys has
-// none. A place whose path is longer than `longest` ends it as want of memory does.
+// The digests of no disclosure: what part 4 says of them, and part 5. They are
+// counted, so an order without decoys has none. A place whose path is longer
+// than `longest` ends it as want of memory does.
 fn judge_others(
     alloc: Global,
     asked: &Asked,
@@ -72,8 +74,15 @@ fn judge_others(
     longest: usize,
 ) -> Result<(), AuditError>
     requires { length content.now.given ≡ asked.now.hidden }
-    ensures hold { OnOk result ((o : SeenOrder) → IsAskedFor o asked.now → AreCounted o (tree_of content.now.body) content.now.given → HasDigests o (tree_of content.now.body) content.now.given × HasDecoys o (tree_of content.now.body) content.now.given) }
-    ensures differs { IfErr result (λ e. (o : SeenOrder) → IsAskedFor o asked.now → AreCounted o (tree_of content.now.body) content.now.given → OnPart e (ContentDiffers o (tree_of content.now.body) content.now.given)) }
+    ensures hold { OnOk result
+        ((o : SeenOrder) → IsAskedFor o asked.now
+        → AreCounted o (tree_of content.now.body) content.now.given
+        → HasDigests o (tree_of content.now.body) content.now.given
+        × HasDecoys o (tree_of content.now.body) content.now.given) }
+    ensures differs { IfErr result
+        (λ e. (o : SeenOrder) → IsAskedFor o asked.now
+        → AreCounted o (tree_of content.now.body) content.now.given
+        → OnPart e (ContentDiffers o (tree_of content.now.body) content.now.given)) }
 {
     if asked.decoys == 0 {
         return Ok(());
@@ -100,8 +109,14 @@ fn judge_digests(
     requires count { length content.now.given ≡ asked.now.hidden }
     requires few { length content.now.given ≤ count_max }
     requires decoys { asked.now.decoys ≤ count_max }
-    ensures audited { OnOk result ((o : SeenOrder) → IsAskedFor o asked.now → ShowsClaims o (tree_of content.now.body) content.now.given → IsAuditedFor o (tree_of content.now.body) content.now.given) }
-    ensures differs { IfErr result (λ e. (o : SeenOrder) → IsAskedFor o asked.now → ShowsClaims o (tree_of content.now.body) content.now.given → OnPart e (ContentDiffers o (tree_of content.now.body) content.now.given)) }
+    ensures audited { OnOk result
+        ((o : SeenOrder) → IsAskedFor o asked.now
+        → ShowsClaims o (tree_of content.now.body) content.now.given
+        → IsAuditedFor o (tree_of content.now.body) content.now.given) }
+    ensures differs { IfErr result
+        (λ e. (o : SeenOrder) → IsAskedFor o asked.now
+        → ShowsClaims o (tree_of content.now.body) content.now.given
+        → OnPart e (ContentDiffers o (tree_of content.now.body) content.now.given)) }
 {
     let Written { body, given, .. } = content;
     if !are_so_many(body, given, given.len() + asked.decoys) {
@@ -116,12 +131,21 @@ fn judge_digests(
     Ok(())
 }
 
-// The same, of what is written, which is read again: the claims are known by now, and so are all names.
+// The same, of what is written, which is read again: the claims are known by
+// now, and so are all names.
 fn judge_again(alloc: Global, asked: &Asked, token: &TokenView<'_>) -> Result<(), AuditError>
     requires few { asked.now.hidden ≤ count_max }
     requires decoys { asked.now.decoys ≤ count_max }
-    ensures audited { OnOk result ((o : SeenOrder) (body : SeenTree) (given : List SeenGiven) → IsAskedFor o asked.now → IsWrittenWith asked.now.hash asked.now.hidden token.now.parts body given → ShowsClaims o (without_alg_of body) given → IsAuditedFor o (without_alg_of body) given) }
-    ensures differs { IfErr result (λ e. (o : SeenOrder) (body : SeenTree) (given : List SeenGiven) → IsAskedFor o asked.now → IsWrittenWith asked.now.hash asked.now.hidden token.now.parts body given → ShowsClaims o (without_alg_of body) given → OnPart e (ContentDiffers o (without_alg_of body) given)) }
+    ensures audited { OnOk result
+        ((o : SeenOrder) (body : SeenTree) (given : List SeenGiven) → IsAskedFor o asked.now
+        → IsWrittenWith asked.now.hash asked.now.hidden token.now.parts body given
+        → ShowsClaims o (without_alg_of body) given
+        → IsAuditedFor o (without_alg_of body) given) }
+    ensures differs { IfErr result
+        (λ e. (o : SeenOrder) (body : SeenTree) (given : List SeenGiven) → IsAskedFor o asked.now
+        → IsWrittenWith asked.now.hash asked.now.hidden token.now.parts body given
+        → ShowsClaims o (without_alg_of body) given
+        → OnPart e (ContentDiffers o (without_alg_of body) given)) }
 {
     match read_written(alloc, asked.hash, asked.hidden, token)? {
         Some(written) => judge_digests(alloc, asked, &bare(written), usize::MAX),
@@ -139,9 +163,10 @@ fn longest_of(texts: &[TextBox]) -> usize {
     longest
 }
 
-// The parts 3 to 6, of what is written. Payload and disclosures are given away for the third, so the others look at
-// them before. A payload that shows other claims may have names of megabytes over thousands of digests: where one
-// stands at a longer path than any decoy that is asked for, the others wait, and what is written is read again.
+// The parts 3 to 6, of what is written. Payload and disclosures are given away for the third, so
+// the others look at them before. A payload that shows other claims may have names of megabytes
+// over thousands of digests: where one stands at a longer path than any decoy that is asked for,
+// the others wait, and what is written is read again.
 fn judge_content(
     alloc: Global,
     asked: &Asked,
@@ -149,16 +174,22 @@ fn judge_content(
     written: Written,
     steps: &mut Steps,
 ) -> Result<(), AuditError>
-    requires read { IsWrittenWith asked.now.hash asked.now.hidden token.now.parts (tree_of written.body) written.given }
+    requires read { IsWrittenWith asked.now.hash asked.now.hidden token.now.parts
+        (tree_of written.body) written.given }
     requires count { length written.given ≡ asked.now.hidden }
     requires few { length written.given ≤ count_max }
     requires decoys { asked.now.decoys ≤ count_max }
     requires object { IsPayload (tree_of written.body) }
     requires payload_depth { depth_of (tree_of written.body) ≤ json_depth_max }
     requires values_depth { ValuesShallow written.given }
-    ensures audited { OnOk result ((o : SeenOrder) → IsAskedFor o asked.now → IsAuditedFor o (without_alg_of (tree_of written.body)) written.given) }
-    ensures differs { IfErr result (λ e. (o : SeenOrder) → IsAskedFor o asked.now → OnPart e (ContentDiffers o (without_alg_of (tree_of written.body)) written.given)) }
-    ensures risen { RoseWithin (look_ups (without_alg_of (tree_of written.body)) written.given) steps.old steps.new }
+    ensures audited { OnOk result
+        ((o : SeenOrder) → IsAskedFor o asked.now
+        → IsAuditedFor o (without_alg_of (tree_of written.body)) written.given) }
+    ensures differs { IfErr result
+        (λ e. (o : SeenOrder) → IsAskedFor o asked.now
+        → OnPart e (ContentDiffers o (without_alg_of (tree_of written.body)) written.given)) }
+    ensures risen { RoseWithin (look_ups (without_alg_of (tree_of written.body)) written.given)
+        steps.old steps.new }
 {
     let content = bare(written);
     let longest = longest_of(asked.standings.as_slice());
@@ -187,10 +218,14 @@ fn judge_token<K: Checker>(
     requires passes { NoneApplies (AppliesToOrder (order_of order)) }
     requires same { (path : Path) → is_among places path ≡ is_among order.hide path }
     requires few { length places ≤ count_max }
-    ensures audited { OnOk result (IsAudited (order_of order) alg.now (K.good checker.now) token.now) }
-    ensures differs { IfErr result (λ e. OnPart e (DiffersIn (order_of order) alg.now (K.good checker.now) token.now)) }
+    ensures audited { OnOk result
+        (IsAudited (order_of order) alg.now (K.good checker.now) token.now) }
+    ensures differs { IfErr result
+        (λ e. OnPart e (DiffersIn (order_of order) alg.now (K.good checker.now) token.now)) }
     ensures within { IsTokenWithin (order_of order) token.now steps.old steps.new }
-    ensures uncounted { (k : ℕ) → k ≤ 2 → DiffersIn (order_of order) alg.now (K.good checker.now) token.now k → steps.new ≡ steps.old }
+    ensures uncounted { (k : ℕ) → k ≤ 2
+        → DiffersIn (order_of order) alg.now (K.good checker.now) token.now k
+        → steps.new ≡ steps.old }
 {
     if !is_signed_for(alloc, &order, alg, checker, token)? {
         return Err(differs(AuditPart::Signed));
@@ -212,12 +247,16 @@ pub(crate) fn audit_owned<K: Checker>(
     steps: &mut Steps,
 ) -> Result<(), AuditError>
     requires depth { depth_of (tree_of order.payload) ≤ json_depth_max }
-    ensures passes { OnOk result (PassesAudit (order_of order) alg.now (K.good checker.now) text.now) }
-    ensures refused { IfErr result (IsAuditRefused (order_of order) alg.now (K.good checker.now) text.now) }
+    ensures passes { OnOk result
+        (PassesAudit (order_of order) alg.now (K.good checker.now) text.now) }
+    ensures refused { IfErr result
+        (IsAuditRefused (order_of order) alg.now (K.good checker.now) text.now) }
 
     // the look-ups
     ensures within { IsAuditedWithin (order_of order) text.now steps.old steps.new }
-    ensures uncounted { (error : SeenError) → IsBeforeOpening error → FailsAudit (order_of order) alg.now (K.good checker.now) text.now error → steps.new ≡ steps.old }
+    ensures uncounted { (error : SeenError) → IsBeforeOpening error
+        → FailsAudit (order_of order) alg.now (K.good checker.now) text.now error
+        → steps.new ≡ steps.old }
 {
     let places = match judge_order(alloc, &order) {
         Ok(places) => places,
@@ -231,11 +270,13 @@ pub(crate) fn audit_owned<K: Checker>(
     judge_token(alloc, order, places, alg, checker, &token.view(), steps)
 }
 
-/// Whether a token is what an order asks for, as who has no seed can tell. The order is judged first, then whether the
-/// text is a token, and then the six parts of [`AuditError::Part`], in their order: the first that differs is answered.
+/// Whether a token is what an order asks for, as who has no seed can tell. The order is judged
+/// first, then whether the text is a token, and then the six parts of [`AuditError::Part`], in
+/// their order: the first that differs is answered.
 ///
-/// The signature is to be one that the checker accepts, by the algorithm of the name `alg`. Of a decoy no one can tell what it is
-/// made of, so its place and its form are judged alone. `steps` counts the look-ups of digests.
+/// The signature is to be one that the checker accepts, by the algorithm of the
+/// name `alg`. Of a decoy no one can tell what it is made of, so its place and
+/// its form are judged alone. `steps` counts the look-ups of digests.
 pub fn audit<K: Checker>(
     alloc: Global,
     order: &Order,
@@ -245,12 +286,16 @@ pub fn audit<K: Checker>(
     steps: &mut Steps,
 ) -> Result<(), AuditError>
     requires depth { depth_of (tree_of order.now.payload) ≤ json_depth_max }
-    ensures passes { OnOk result (PassesAudit (order_of order.now) alg.now (K.good checker.now) text.now) }
-    ensures refused { IfErr result (IsAuditRefused (order_of order.now) alg.now (K.good checker.now) text.now) }
+    ensures passes { OnOk result
+        (PassesAudit (order_of order.now) alg.now (K.good checker.now) text.now) }
+    ensures refused { IfErr result
+        (IsAuditRefused (order_of order.now) alg.now (K.good checker.now) text.now) }
 
     // the look-ups
     ensures within { IsAuditedWithin (order_of order.now) text.now steps.old steps.new }
-    ensures uncounted { (error : SeenError) → IsBeforeOpening error → FailsAudit (order_of order.now) alg.now (K.good checker.now) text.now error → steps.new ≡ steps.old }
+    ensures uncounted { (error : SeenError) → IsBeforeOpening error
+        → FailsAudit (order_of order.now) alg.now (K.good checker.now) text.now error
+        → steps.new ≡ steps.old }
 {
     let owned = order.copy(alloc)?;
     audit_owned(alloc, owned, alg, checker, text, steps)

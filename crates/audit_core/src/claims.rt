@@ -19,8 +19,8 @@ use rebuild_core::{ProcessError, process_seeded};
 use sd_outside::NoMemory;
 use std::alloc::Global;
 
-// Whether the payload, which has no `_sd_alg` of its own, and the disclosures meet the conditions 14 to 21 and show
-// these claims. Both are given away.
+// Whether the payload, which has no `_sd_alg` of its own, and the disclosures meet the conditions
+// 14 to 21 and show these claims. Both are given away.
 pub(crate) fn shows(
     alloc: Global,
     payload: Tree,
@@ -34,7 +34,10 @@ pub(crate) fn shows(
     requires payload_depth { depth_of (tree_of payload) ≤ json_depth_max }
     requires values_depth { ValuesShallow given }
     requires few { length given < 2 ^ 32 - 1 }
-    ensures shows { IfOk result (λ is. IsTrue is ↔ (IsSound (tree_of payload) given × (processed (tree_of payload) given ≡ marked_of claims.now))) }
+    ensures shows { IfOk result
+        (λ is. IsTrue is
+        ↔ (IsSound (tree_of payload) given
+        × (processed (tree_of payload) given ≡ marked_of claims.now))) }
     ensures risen { RoseWithin (look_ups (tree_of payload) given) steps.old steps.new }
 {
     match process_seeded(alloc, payload, given, seed, steps) {

@@ -10,7 +10,8 @@ use digest_sites::{GivenList, element_digest, is_sd, own_count};
 // What is left of a number without the sites of a tree, unless they are more.
 #[cycle(counting)]
 fn left_of(tree: &Tree, left: usize) -> Option<usize>
-    ensures { MatchOption result (left < count_in (tree_of tree.now)) (λ rest. rest + count_in (tree_of tree.now) ≡ left) }
+    ensures { MatchOption result (left < count_in (tree_of tree.now))
+        (λ rest. rest + count_in (tree_of tree.now) ≡ left) }
 {
     match tree {
         Tree::List(trees) => left_of_elements(trees, left),
@@ -25,7 +26,8 @@ fn left_of(tree: &Tree, left: usize) -> Option<usize>
 #[cycle(counting)]
 #[tactic(auto, using(claim_tree::proofs::Walks::into_element))]
 fn left_of_elements(trees: &TreeList, left: usize) -> Option<usize>
-    ensures { MatchOption result (left < elements_count trees.now) (λ rest. rest + elements_count trees.now ≡ left) }
+    ensures { MatchOption result (left < elements_count trees.now)
+        (λ rest. rest + elements_count trees.now ≡ left) }
 {
     let mut left = left;
     for tree in trees.trees() {
@@ -36,7 +38,10 @@ fn left_of_elements(trees: &TreeList, left: usize) -> Option<usize>
 
 #[cycle(counting)]
 fn left_of_element(tree: &Tree, left: usize) -> Option<usize>
-    ensures { MatchOption result (left < count_on (digest_in (tree_of tree.now)) (count_in (tree_of tree.now))) (λ rest. rest + count_on (digest_in (tree_of tree.now)) (count_in (tree_of tree.now)) ≡ left) }
+    ensures { MatchOption result
+        (left < count_on (digest_in (tree_of tree.now)) (count_in (tree_of tree.now)))
+        (λ rest.
+        rest + count_on (digest_in (tree_of tree.now)) (count_in (tree_of tree.now)) ≡ left) }
 {
     match element_digest(tree) {
         Some(_) => without(left, 1),
@@ -47,7 +52,8 @@ fn left_of_element(tree: &Tree, left: usize) -> Option<usize>
 #[cycle(counting)]
 #[tactic(auto, using(claim_tree::proofs::Walks::into_member))]
 fn left_of_members(trees: &TreeMap, left: usize) -> Option<usize>
-    ensures { MatchOption result (left < members_count trees.now) (λ rest. rest + members_count trees.now ≡ left) }
+    ensures { MatchOption result (left < members_count trees.now)
+        (λ rest. rest + members_count trees.now ≡ left) }
 {
     let mut left = left;
     for (name, tree) in trees.members() {

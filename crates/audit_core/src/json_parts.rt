@@ -43,7 +43,8 @@ fn decoded<'a>(room: &'a mut Vec<u8>, part: &str) -> Result<Option<&'a [u8]>, No
 // What was read, or none where the text was not of its form.
 fn or_none<T>(read: Result<T, ReadError>) -> Result<Option<T>, NoMemory>
     ensures some { IfOk result (λ found. IfSome found (λ value. read ≡ Ok value)) }
-    ensures none { IfOk result (λ found. IfNone found ((error : Unread) × (read ≡ Err error) × (error ≢ Unread.Memory))) }
+    ensures none { IfOk result
+        (λ found. IfNone found ((error : Unread) × (read ≡ Err error) × (error ≢ Unread.Memory))) }
 {
     match read {
         Ok(value) => Ok(Some(value)),
@@ -72,7 +73,8 @@ impl JsonPartReader {
     // The tree that a part carries, where the part is the text of its compact JSON.
     pub(crate) fn read(&mut self, alloc: Global, part: &str) -> Result<Option<Tree>, NoMemory>
         ensures some { IfOk result (λ read. IfSome read (λ t. IsWrittenAs part.now (tree_of t))) }
-        ensures depth { IfOk result (λ read. IfSome read (λ t. depth_of (tree_of t) ≤ json_depth_max)) }
+        ensures depth { IfOk result
+            (λ read. IfSome read (λ t. depth_of (tree_of t) ≤ json_depth_max)) }
         ensures none { IfOk result (λ read. IfNone read (IsUnwritten part.now)) }
     {
         let Some(json) = decoded(&mut self.room, part)? else {
@@ -93,7 +95,8 @@ impl JsonPartReader {
         alloc: Global,
         text: &str,
     ) -> Result<Option<Disclosed>, NoMemory>
-        ensures some { IfOk result (λ read. IfSome read (λ d. IsSaltedText text.now d.name (tree_of d.value))) }
+        ensures some { IfOk result
+            (λ read. IfSome read (λ d. IsSaltedText text.now d.name (tree_of d.value))) }
         ensures depth { IfOk result (λ read. IfSome read (λ d. depth_of (tree_of d.value) ≤ 126)) }
         ensures none { IfOk result (λ read. IfNone read (IsUnsalted text.now)) }
     {

@@ -12,7 +12,10 @@ use std::collections::HashSet;
 
 // Puts a digest among those, unless it is there.
 fn add<'a>(digests: &mut HashSet<&'a str, Seeded>, digest: &'a str) -> Result<(), NoMemory>
-    ensures { OnOk result ((other : Text) → is_in digests.new.keys other ≡ (bytes_eq other digest.now || is_in digests.old.keys other)) }
+    ensures { OnOk result
+        ((other : Text)
+        → is_in digests.new.keys other
+        ≡ (bytes_eq other digest.now || is_in digests.old.keys other)) }
 {
     digests.insert(digest)?;
     Ok(())
@@ -30,7 +33,8 @@ pub(crate) fn digests_of<'a>(
     given: &'a GivenList,
     seed: u64,
 ) -> Result<HashSet<&'a str, Seeded>, NoMemory>
-    ensures { IfOk result (λ set. (digest : Text) → is_in set.keys digest ≡ is_given given.now digest) }
+    ensures { IfOk result
+        (λ set. (digest : Text) → is_in set.keys digest ≡ is_given given.now digest) }
 {
     let mut digests = HashSet::with_capacity_and_hasher(alloc, given.len(), Seeded::new(seed))?;
     for one in given.items() {

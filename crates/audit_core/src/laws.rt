@@ -16,11 +16,12 @@ use hmac_sign::{Checker, Signer};
 
 /// A text passes an audit, or one thing refuses it.
 pub fn one_audit<K: Checker>()
-    ensures { (checker : K) (o : Order) (alg : Text) (content : Text) → HasOneVerdict o alg (K.good checker) content }
+    ensures { (checker : K) (o : Order) (alg : Text) (content : Text)
+        → HasOneVerdict o alg (K.good checker) content }
 {}
 
-/// What is issued for an order that nothing of 51 to 59 refuses passes the audit of whoever knows what its signature
-/// means and has no seed, where its compact text is read as a token.
+/// What is issued for an order that nothing of 51 to 59 refuses passes the audit of whoever knows
+/// what its signature means and has no seed, where its compact text is read as a token.
 pub fn audited<S: Signer>()
     ensures by_signer { (signer : S) → IssuedPasses (S.alg_name_of signer) (S.good signer) }
     ensures by_key { (key : AlgKey) → KeyIssuedPasses key }
@@ -28,14 +29,19 @@ pub fn audited<S: Signer>()
 
 /// The definition of an audit has at most one answer over an order file and a token file.
 pub fn one_answer()
-    ensures { (order_file token_file : List ℕ) (v w : Reply) → AuditAnswers order_file token_file v → AuditAnswers order_file token_file w → v ≡ w }
+    ensures { (order_file token_file : List ℕ) (v w : Reply) → AuditAnswers order_file token_file v
+        → AuditAnswers order_file token_file w → v ≡ w }
 {}
 
-/// Where the words are those of an audit, the cabinet tells its two files, the definition gives an answer over them,
-/// and neither the cabinet nor `out` failed, that answer was written, or there was no memory.
+/// Where the words are those of an audit, the cabinet tells its two files, the
+/// definition gives an answer over them, and neither the cabinet nor `out`
+/// failed, that answer was written, or there was no memory.
 pub fn completes()
-    ensures { (words : List (List ℕ)) (before after : Outside) (status : Status) (order token order_file token_file answer : List ℕ)
-        → IsAudit words order token → IsFileTold before.holds order order_file → IsFileTold before.holds token token_file → AuditAnswers order_file token_file (gives answer)
-        → (Rose before.faults after.faults → ⊥) → (Rose before.out.faults after.out.faults → ⊥) → AuditEnds words before after status
-        → ((status ≡ Status.Done) × Appends before.out.written after.out.written answer) ⊎ (status ≡ Status.Memory) }
+    ensures { (words : List (List ℕ)) (before after : Outside) (status : Status)
+        (order token order_file token_file answer : List ℕ) → IsAudit words order token
+        → IsFileTold before.holds order order_file → IsFileTold before.holds token token_file
+        → AuditAnswers order_file token_file (gives answer) → (Rose before.faults after.faults → ⊥)
+        → (Rose before.out.faults after.out.faults → ⊥) → AuditEnds words before after status
+        → ((status ≡ Status.Done) × Appends before.out.written after.out.written answer)
+        ⊎ (status ≡ Status.Memory) }
 {}

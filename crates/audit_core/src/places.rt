@@ -14,9 +14,9 @@ use marked_tree::{Marked, MarkedList, MarkedMap};
 use sd_outside::NoMemory;
 use std::alloc::Global;
 
-// The strange sites of the payload, and then those of each value. A value stands at the node of the claims whose mark
-// is its number. Digests are looked up by their hashes with the seed. A site whose path is longer than `longest` ends
-// the search as want of memory does.
+// The strange sites of the payload, and then those of each value. A value stands at the node of the
+// claims whose mark is its number. Digests are looked up by their hashes with the seed. A site
+// whose path is longer than `longest` ends the search as want of memory does.
 pub(crate) fn others_of(
     alloc: Global,
     claims: &Marked,
@@ -42,7 +42,11 @@ pub(crate) fn others_of(
 
 #[cycle(values)]
 fn walk(search: &mut Search<'_>, given: &GivenList, claims: &Marked) -> Result<(), NoMemory>
-    ensures found { OnOk result (search.new.found ≡ search.old.found ++ values_at (is_in search.old.known.keys) given.now search.old.at (marked_of claims.now)) }
+    ensures found { OnOk result
+        (search.new.found
+        ≡ search.old.found
+        ++ values_at (is_in search.old.known.keys) given.now search.old.at
+        (marked_of claims.now)) }
     ensures at { OnOk result (search.new.at ≡ search.old.at) }
     ensures known { OnOk result (search.new.known ≡ search.old.known) }
 {
@@ -60,7 +64,11 @@ fn walk_elements(
     given: &GivenList,
     list: &MarkedList,
 ) -> Result<(), NoMemory>
-    ensures found { OnOk result (search.new.found ≡ search.old.found ++ elements_values (is_in search.old.known.keys) given.now search.old.at 0 list.now) }
+    ensures found { OnOk result
+        (search.new.found
+        ≡ search.old.found
+        ++ elements_values (is_in search.old.known.keys) given.now search.old.at 0
+        list.now) }
     ensures at { OnOk result (search.new.at ≡ search.old.at) }
     ensures known { OnOk result (search.new.known ≡ search.old.known) }
 {
@@ -77,7 +85,10 @@ fn walk_elements(
 #[cycle(values)]
 #[tactic(auto, using(marked_tree::proofs::MarkedWalks::into_member))]
 fn walk_members(search: &mut Search<'_>, given: &GivenList, map: &MarkedMap) -> Result<(), NoMemory>
-    ensures found { OnOk result (search.new.found ≡ search.old.found ++ members_values (is_in search.old.known.keys) given.now search.old.at map.now) }
+    ensures found { OnOk result
+        (search.new.found
+        ≡ search.old.found
+        ++ members_values (is_in search.old.known.keys) given.now search.old.at map.now) }
     ensures at { OnOk result (search.new.at ≡ search.old.at) }
     ensures known { OnOk result (search.new.known ≡ search.old.known) }
 {
@@ -108,7 +119,13 @@ fn walk_node(
     mark: Option<u32>,
     tree: &Marked,
 ) -> Result<(), NoMemory>
-    ensures found { OnOk result (search.new.found ≡ search.old.found ++ (values_at (is_in search.old.known.keys) given.now (search.old.at ++ step.now ∷ []) (marked_of tree.now) ++ value_at (is_in search.old.known.keys) given.now (search.old.at ++ step.now ∷ []) mark)) }
+    ensures found { OnOk result
+        (search.new.found
+        ≡ search.old.found
+        ++ (values_at (is_in search.old.known.keys) given.now
+        (search.old.at ++ step.now ∷ []) (marked_of tree.now)
+        ++ value_at (is_in search.old.known.keys) given.now
+        (search.old.at ++ step.now ∷ []) mark)) }
     ensures at { OnOk result (search.new.at ≡ search.old.at) }
     ensures known { OnOk result (search.new.known ≡ search.old.known) }
 {
@@ -121,7 +138,10 @@ fn walk_node(
 
 // The value with this number.
 fn walk_value(search: &mut Search<'_>, given: &GivenList, mark: Option<u32>) -> Result<(), NoMemory>
-    ensures found { OnOk result (search.new.found ≡ search.old.found ++ value_at (is_in search.old.known.keys) given.now search.old.at mark) }
+    ensures found { OnOk result
+        (search.new.found
+        ≡ search.old.found
+        ++ value_at (is_in search.old.known.keys) given.now search.old.at mark) }
     ensures at { OnOk result (search.new.at ≡ search.old.at) }
     ensures known { OnOk result (search.new.known ≡ search.old.known) }
 {

@@ -44,8 +44,8 @@ fn place(error: &AuditError) -> Place
     }
 }
 
-/// The line that tells why a token does not pass, without its line end: of a condition of 1 to 3, or of a refusal of 80
-/// to 86. What is no refusal has no line.
+/// The line that tells why a token does not pass, without its line end: of a condition of 1 to 3,
+/// or of a refusal of 80 to 86. What is no refusal has no line.
 pub fn refusal_line(alloc: Global, error: &AuditError) -> Result<TextBox, NoMemory>
     ensures { IfOk result (λ line. line ≡ audit_refusal_text error.now) }
 {

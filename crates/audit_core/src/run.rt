@@ -22,7 +22,8 @@ use std::alloc::Global;
 // The answer for what an order file says.
 fn audit_for(alloc: Global, asked: IssueFile, token_file: &[u8]) -> Result<String, Stop>
     requires depth { depth (tree_of asked.order.payload) ≤ json_depth_max }
-    ensures replies { (order_file : List ℕ) → IsOrderFile order_file asked → IsReply (AuditAnswers order_file token_file.now) result }
+    ensures replies { (order_file : List ℕ) → IsOrderFile order_file asked
+        → IsReply (AuditAnswers order_file token_file.now) result }
     ensures read { IfErr result (λ stop. OnUnread stop (λ _. ⊥)) }
 {
     let IssueFile { order, key } = asked;
@@ -40,8 +41,8 @@ fn audit_for(alloc: Global, asked: IssueFile, token_file: &[u8]) -> Result<Strin
     }
 }
 
-/// The answer to an order file and a token file: the line `yes`, where the token is what the order asks for, signed
-/// with its key.
+/// The answer to an order file and a token file: the line `yes`, where the
+/// token is what the order asks for, signed with its key.
 pub fn audit_files(alloc: Global, order_file: &[u8], token_file: &[u8]) -> Result<String, Stop>
     ensures replies { IsReply (AuditAnswers order_file.now token_file.now) result }
     ensures read { IfErr result (λ stop. OnUnread stop (λ _. ⊥)) }
@@ -53,8 +54,11 @@ pub fn audit_files(alloc: Global, order_file: &[u8], token_file: &[u8]) -> Resul
 // The answer over the files that the cabinet has under these names.
 fn answer<C: Cabinet>(alloc: Global, cab: &mut C, order: &str, token: &str) -> Result<String, Stop>
     ensures replies { IsReply (AuditsFiles (C.holds cab.old) order.now token.now) result }
-    ensures misses { IfErr result (λ stop. OnUnread stop (λ word. MissesWord (order.now ∷ token.now ∷ []) word (C.missed cab.new))) }
-    ensures rose { IfErr result (λ stop. OnUnread stop (λ _. Rose (C.faults cab.old) (C.faults cab.new))) }
+    ensures misses { IfErr result
+        (λ stop. OnUnread stop
+        (λ word. MissesWord (order.now ∷ token.now ∷ []) word (C.missed cab.new))) }
+    ensures rose { IfErr result
+        (λ stop. OnUnread stop (λ _. Rose (C.faults cab.old) (C.faults cab.new))) }
     ensures held { (name : List ℕ) → C.holds cab.new name ≡ C.holds cab.old name }
     ensures later { C.faults cab.old ≤ C.faults cab.new }
 {
@@ -65,8 +69,10 @@ fn answer<C: Cabinet>(alloc: Global, cab: &mut C, order: &str, token: &str) -> R
 
 // The names of the two files.
 fn audit_words(words: &[String]) -> Option<(&str, &str)>
-    ensures some { IfSome result (λ names. IsAudit (map string_bytes words.now) names.0.now names.1.now) }
-    ensures none { result ≡ None → (order token : List ℕ) → IsAudit (map string_bytes words.now) order token → ⊥ }
+    ensures some { IfSome result
+        (λ names. IsAudit (map string_bytes words.now) names.0.now names.1.now) }
+    ensures none { result ≡ None → (order token : List ℕ)
+        → IsAudit (map string_bytes words.now) order token → ⊥ }
 {
     match words {
         [name, order, token] if name.as_str() == "audit" => Some((order.as_str(), token.as_str())),
@@ -74,10 +80,12 @@ fn audit_words(words: &[String]) -> Option<(&str, &str)>
     }
 }
 
-/// Runs the audit that the words ask for: `audit`, the name of an order file, and that of a token file.
+/// Runs the audit that the words ask for: `audit`, the name of an order file,
+/// and that of a token file.
 ///
-/// Where the token is what the order asks for, signed with its key, the line `yes` goes to `out`; else the line of the
-/// first refusal goes to `err`. What each status says of the outside before and after is `AuditEnds`, by cases.
+/// Where the token is what the order asks for, signed with its key, the line
+/// `yes` goes to `out`; else the line of the first refusal goes to `err`. What
+/// each status says of the outside before and after is `AuditEnds`, by cases.
 pub fn run_audit<C: Cabinet, O: Sink, E: Sink>(
     alloc: Global,
     words: &[String],
@@ -85,8 +93,11 @@ pub fn run_audit<C: Cabinet, O: Sink, E: Sink>(
     out: &mut O,
     err: &mut E,
 ) -> Status
-    ensures ends { AuditEnds (map string_bytes words.now) (outside C.Cabinet O.Sink E.Sink cab.old out.old err.old) (outside C.Cabinet O.Sink E.Sink cab.new out.new err.new) result }
-    ensures keeps { RunKeeps (outside C.Cabinet O.Sink E.Sink cab.old out.old err.old) (outside C.Cabinet O.Sink E.Sink cab.new out.new err.new) }
+    ensures ends { AuditEnds (map string_bytes words.now)
+        (outside C.Cabinet O.Sink E.Sink cab.old out.old err.old)
+        (outside C.Cabinet O.Sink E.Sink cab.new out.new err.new) result }
+    ensures keeps { RunKeeps (outside C.Cabinet O.Sink E.Sink cab.old out.old err.old)
+        (outside C.Cabinet O.Sink E.Sink cab.new out.new err.new) }
 {
     let Some((order, token)) = audit_words(words) else {
         return tell(err, "usage\n", Status::Usage);

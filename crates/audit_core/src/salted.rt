@@ -12,8 +12,8 @@ use disclosure::Disclosed;
 use sd_outside::NoMemory;
 use std::alloc::Global;
 
-// The 22 letters behind the bracket and the quote with which compact JSON of a disclosure begins, where they are the
-// text of 16 bytes.
+// The 22 letters behind the bracket and the quote with which compact JSON of a
+// disclosure begins, where they are the text of 16 bytes.
 fn salt_in(json: &[u8]) -> Option<&str>
     ensures salt { IfSome result (λ salt. IsSalt salt.now) }
     ensures stands { IfSome result (λ salt. salt.now ≡ take 22 (drop 2 json.now)) }
@@ -31,8 +31,12 @@ fn salt_in(json: &[u8]) -> Option<&str>
 // Whether the bytes are the compact JSON of a disclosure that gives this, with a salt of 16 bytes.
 pub(crate) fn is_salted(alloc: Global, json: &[u8], given: &Disclosed) -> Result<bool, NoMemory>
     requires depth { depth_of (tree_of given.now.value) ≤ 126 }
-    ensures some { IfOk result (λ is. IsTrue is → (text : Text) → Decodes text json.now → IsSaltedText text given.now.name (tree_of given.now.value)) }
-    ensures none { IfOk result (λ is. (text : Text) → Decodes text json.now → IsSaltedText text given.now.name (tree_of given.now.value) → IsTrue is) }
+    ensures some { IfOk result
+        (λ is. IsTrue is → (text : Text) → Decodes text json.now
+        → IsSaltedText text given.now.name (tree_of given.now.value)) }
+    ensures none { IfOk result
+        (λ is. (text : Text) → Decodes text json.now
+        → IsSaltedText text given.now.name (tree_of given.now.value) → IsTrue is) }
 {
     let Some(salt) = salt_in(json) else {
         return Ok(false);

@@ -52,7 +52,9 @@ fn is_same_list(one: &MarkedList, other: &MarkedList) -> bool
 
 #[cycle(same)]
 fn is_same_element(one: &(Option<u32>, Marked), other: &(Option<u32>, Marked)) -> bool
-    ensures { result ≡ (same_mark one.now.0 other.now.0 && same_marked (marked_of one.now.1) (marked_of other.now.1)) }
+    ensures { result
+        ≡ (same_mark one.now.0 other.now.0
+        && same_marked (marked_of one.now.1) (marked_of other.now.1)) }
 {
     let (mark, tree) = one;
     let (other_mark, other_tree) = other;
@@ -82,7 +84,10 @@ fn is_same_member(
     one: &(TextBox, Option<u32>, Marked),
     other: &(TextBox, Option<u32>, Marked),
 ) -> bool
-    ensures { result ≡ (bytes_eq one.now.0 other.now.0 && (same_mark one.now.1 other.now.1 && same_marked (marked_of one.now.2) (marked_of other.now.2))) }
+    ensures { result
+        ≡ (bytes_eq one.now.0 other.now.0
+        && (same_mark one.now.1 other.now.1
+        && same_marked (marked_of one.now.2) (marked_of other.now.2))) }
 {
     let (name, mark, tree) = one;
     let (other_name, other_mark, other_tree) = other;

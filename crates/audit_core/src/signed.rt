@@ -20,7 +20,12 @@ use std::alloc::Global;
 
 // Whether the protected header is that of the order.
 fn is_header_of(alloc: Global, order: &Order, alg: &str, protected: &str) -> Result<bool, NoMemory>
-    ensures { IfOk result (λ is. IsTrue is ↔ (protected.now ≡ b64 (json_text (object (header_members (header_of alg.now (order_of order.now))))))) }
+    ensures { IfOk result
+        (λ is. IsTrue is
+        ↔ (protected.now
+        ≡ b64
+        (json_text
+        (object (header_members (header_of alg.now (order_of order.now))))))) }
 {
     let header = order_header(alloc, order, alg)?;
     let wanted = write_header(alloc, &header)?;
@@ -33,7 +38,11 @@ fn is_accepted<K: Checker>(
     checker: &K,
     signed: JwtView<'_>,
 ) -> Result<bool, NoMemory>
-    ensures { IfOk result (λ is. IsTrue is ↔ ((signature : List ℕ) × Decodes (jwt_of signed.entry).signature signature × K.good checker.now (jwt_of signed.entry).protected (jwt_of signed.entry).payload signature)) }
+    ensures { IfOk result
+        (λ is. IsTrue is
+        ↔ ((signature : List ℕ) × Decodes (jwt_of signed.entry).signature signature
+        × K.good checker.now (jwt_of signed.entry).protected (jwt_of signed.entry).payload
+        signature)) }
 {
     match decode(alloc, signed.signature.as_bytes()) {
         Ok(signature) => { Ok(checker.check(signed.protected, signed.payload, signature.bytes())) }
@@ -58,7 +67,9 @@ pub(crate) fn is_signed_for<K: Checker>(
     checker: &K,
     token: &TokenView<'_>,
 ) -> Result<bool, NoMemory>
-    ensures { IfOk result (λ is. IsTrue is ↔ IsSignedFor (order_of order.now) alg.now (K.good checker.now) token.now) }
+    ensures { IfOk result
+        (λ is.
+        IsTrue is ↔ IsSignedFor (order_of order.now) alg.now (K.good checker.now) token.now) }
 {
     let signed = token.signed();
     if !is_alone(token) || !is_header_of(alloc, order, alg, signed.protected)? {

@@ -31,7 +31,10 @@ pub(crate) struct Search<'a> {
 // Adds the strange sites of a tree that stands where the search is.
 #[cycle(strange)]
 pub(crate) fn walk(search: &mut Search<'_>, tree: &Tree) -> Result<(), NoMemory>
-    ensures found { OnOk result (search.new.found ≡ search.old.found ++ strange_at (is_in search.old.known.keys) search.old.at (tree_of tree.now)) }
+    ensures found { OnOk result
+        (search.new.found
+        ≡ search.old.found
+        ++ strange_at (is_in search.old.known.keys) search.old.at (tree_of tree.now)) }
     ensures at { OnOk result (search.new.at ≡ search.old.at) }
     ensures known { OnOk result (search.new.known ≡ search.old.known) }
 {
@@ -48,7 +51,10 @@ pub(crate) fn walk(search: &mut Search<'_>, tree: &Tree) -> Result<(), NoMemory>
 #[cycle(strange)]
 #[tactic(auto, using(claim_tree::proofs::Walks::into_element))]
 fn walk_elements(search: &mut Search<'_>, trees: &TreeList) -> Result<(), NoMemory>
-    ensures found { OnOk result (search.new.found ≡ search.old.found ++ strange_elements (is_in search.old.known.keys) search.old.at 0 trees.now) }
+    ensures found { OnOk result
+        (search.new.found
+        ≡ search.old.found
+        ++ strange_elements (is_in search.old.known.keys) search.old.at 0 trees.now) }
     ensures at { OnOk result (search.new.at ≡ search.old.at) }
     ensures known { OnOk result (search.new.known ≡ search.old.known) }
 {
@@ -60,7 +66,13 @@ fn walk_elements(search: &mut Search<'_>, trees: &TreeList) -> Result<(), NoMemo
 
 #[cycle(strange)]
 fn walk_element(search: &mut Search<'_>, i: usize, tree: &Tree) -> Result<(), NoMemory>
-    ensures found { OnOk result (search.new.found ≡ search.old.found ++ strange_on (is_in search.old.known.keys) (search.old.at ++ decimal i ∷ []) (digest_in (tree_of tree.now)) (strange_at (is_in search.old.known.keys) (search.old.at ++ decimal i ∷ []) (tree_of tree.now))) }
+    ensures found { OnOk result
+        (search.new.found
+        ≡ search.old.found
+        ++ strange_on (is_in search.old.known.keys) (search.old.at ++ decimal i ∷ [])
+        (digest_in (tree_of tree.now))
+        (strange_at (is_in search.old.known.keys) (search.old.at ++ decimal i ∷ [])
+        (tree_of tree.now))) }
     ensures at { OnOk result (search.new.at ≡ search.old.at) }
     ensures known { OnOk result (search.new.known ≡ search.old.known) }
 {
@@ -73,7 +85,11 @@ fn walk_element(search: &mut Search<'_>, i: usize, tree: &Tree) -> Result<(), No
 // The element at a position: no step is made to a value that has nothing inside.
 #[cycle(strange)]
 fn walk_position(search: &mut Search<'_>, i: usize, tree: &Tree) -> Result<(), NoMemory>
-    ensures found { OnOk result (search.new.found ≡ search.old.found ++ strange_at (is_in search.old.known.keys) (search.old.at ++ decimal i ∷ []) (tree_of tree.now)) }
+    ensures found { OnOk result
+        (search.new.found
+        ≡ search.old.found
+        ++ strange_at (is_in search.old.known.keys) (search.old.at ++ decimal i ∷ [])
+        (tree_of tree.now)) }
     ensures at { OnOk result (search.new.at ≡ search.old.at) }
     ensures known { OnOk result (search.new.known ≡ search.old.known) }
 {
@@ -89,7 +105,10 @@ fn walk_position(search: &mut Search<'_>, i: usize, tree: &Tree) -> Result<(), N
 #[cycle(strange)]
 #[tactic(auto, using(claim_tree::proofs::Walks::into_member))]
 fn walk_members(search: &mut Search<'_>, trees: &TreeMap) -> Result<(), NoMemory>
-    ensures found { OnOk result (search.new.found ≡ search.old.found ++ strange_members (is_in search.old.known.keys) search.old.at trees.now) }
+    ensures found { OnOk result
+        (search.new.found
+        ≡ search.old.found
+        ++ strange_members (is_in search.old.known.keys) search.old.at trees.now) }
     ensures at { OnOk result (search.new.at ≡ search.old.at) }
     ensures known { OnOk result (search.new.known ≡ search.old.known) }
 {
@@ -103,7 +122,11 @@ fn walk_members(search: &mut Search<'_>, trees: &TreeMap) -> Result<(), NoMemory
 
 #[cycle(strange)]
 fn walk_member(search: &mut Search<'_>, name: &TextBox, tree: &Tree) -> Result<(), NoMemory>
-    ensures found { OnOk result (search.new.found ≡ search.old.found ++ strange_at (is_in search.old.known.keys) (search.old.at ++ name.now ∷ []) (tree_of tree.now)) }
+    ensures found { OnOk result
+        (search.new.found
+        ≡ search.old.found
+        ++ strange_at (is_in search.old.known.keys) (search.old.at ++ name.now ∷ [])
+        (tree_of tree.now)) }
     ensures at { OnOk result (search.new.at ≡ search.old.at) }
     ensures known { OnOk result (search.new.known ≡ search.old.known) }
 {
@@ -116,7 +139,11 @@ fn walk_member(search: &mut Search<'_>, name: &TextBox, tree: &Tree) -> Result<(
 // The tree on a step.
 #[cycle(strange)]
 fn walk_inside(search: &mut Search<'_>, step: &str, tree: &Tree) -> Result<(), NoMemory>
-    ensures found { OnOk result (search.new.found ≡ search.old.found ++ strange_at (is_in search.old.known.keys) (search.old.at ++ step.now ∷ []) (tree_of tree.now)) }
+    ensures found { OnOk result
+        (search.new.found
+        ≡ search.old.found
+        ++ strange_at (is_in search.old.known.keys) (search.old.at ++ step.now ∷ [])
+        (tree_of tree.now)) }
     ensures at { OnOk result (search.new.at ≡ search.old.at) }
     ensures known { OnOk result (search.new.known ≡ search.old.known) }
 {
@@ -135,14 +162,16 @@ fn is_longer(path: &Path, most: usize) -> bool {
     length > most
 }
 
-// A site at a path, whose digest is of no disclosure. A path that is too long is refused as want of memory is.
+// A site at a path, whose digest is of no disclosure. A path that is too long
+// is refused as want of memory is.
 fn add_site(
     search: &mut Search<'_>,
     at: Path,
     kind: SiteKind,
     digest: &TextBox,
 ) -> Result<(), NoMemory>
-    ensures found { OnOk result (search.new.found ≡ search.old.found ++ site at kind digest.now ∷ []) }
+    ensures found { OnOk result
+        (search.new.found ≡ search.old.found ++ site at kind digest.now ∷ []) }
     ensures at { search.new.at ≡ search.old.at }
     ensures known { search.new.known ≡ search.old.known }
 {
@@ -154,7 +183,11 @@ fn add_site(
 }
 
 fn add_element(search: &mut Search<'_>, i: usize, digest: &TextBox) -> Result<(), NoMemory>
-    ensures found { OnOk result (search.new.found ≡ search.old.found ++ strange_on (is_in search.old.known.keys) (search.old.at ++ decimal i ∷ []) (Some digest.now) []) }
+    ensures found { OnOk result
+        (search.new.found
+        ≡ search.old.found
+        ++ strange_on (is_in search.old.known.keys) (search.old.at ++ decimal i ∷ [])
+        (Some digest.now) []) }
     ensures at { search.new.at ≡ search.old.at }
     ensures known { search.new.known ≡ search.old.known }
 {
@@ -168,7 +201,10 @@ fn add_element(search: &mut Search<'_>, i: usize, digest: &TextBox) -> Result<()
 }
 
 fn add_own(search: &mut Search<'_>, trees: &TreeMap) -> Result<(), NoMemory>
-    ensures found { OnOk result (search.new.found ≡ search.old.found ++ strange_own (is_in search.old.known.keys) search.old.at (sd_texts trees.now)) }
+    ensures found { OnOk result
+        (search.new.found
+        ≡ search.old.found
+        ++ strange_own (is_in search.old.known.keys) search.old.at (sd_texts trees.now)) }
     ensures at { search.new.at ≡ search.old.at }
     ensures known { search.new.known ≡ search.old.known }
 {
@@ -180,7 +216,11 @@ fn add_own(search: &mut Search<'_>, trees: &TreeMap) -> Result<(), NoMemory>
 
 fn add_members(search: &mut Search<'_>, digests: &TreeList) -> Result<(), NoMemory>
     requires { IsSome (texts_of digests.now) }
-    ensures found { OnOk result (search.new.found ≡ search.old.found ++ strange_own (is_in search.old.known.keys) search.old.at (unwrap_or (texts_of digests.now) [])) }
+    ensures found { OnOk result
+        (search.new.found
+        ≡ search.old.found
+        ++ strange_own (is_in search.old.known.keys) search.old.at
+        (unwrap_or (texts_of digests.now) [])) }
     ensures at { search.new.at ≡ search.old.at }
     ensures known { search.new.known ≡ search.old.known }
 {
@@ -193,7 +233,10 @@ fn add_members(search: &mut Search<'_>, digests: &TreeList) -> Result<(), NoMemo
 }
 
 fn add_member(search: &mut Search<'_>, digest: &TextBox) -> Result<(), NoMemory>
-    ensures found { OnOk result (search.new.found ≡ search.old.found ++ strange_own (is_in search.old.known.keys) search.old.at (digest.now ∷ [])) }
+    ensures found { OnOk result
+        (search.new.found
+        ≡ search.old.found
+        ++ strange_own (is_in search.old.known.keys) search.old.at (digest.now ∷ [])) }
     ensures at { search.new.at ≡ search.old.at }
     ensures known { search.new.known ≡ search.old.known }
 {

@@ -40,7 +40,10 @@ fn note(
 ) -> Result<(), NoMemory>
     requires before { before ≡ count_at counts.old pointer }
     requires few { before + more < 2 ^ 64 }
-    ensures { OnOk result ((q : Text) → count_at counts.new q ≡ (if bytes_eq pointer q then more else 0) + count_at counts.old q) }
+    ensures { OnOk result
+        ((q : Text)
+        → count_at counts.new q
+        ≡ (if bytes_eq pointer q then more else 0) + count_at counts.old q) }
 {
     match counts.insert(pointer, before + more as usize) {
         Ok(_) => Ok(()),
@@ -55,7 +58,9 @@ fn push_members(
     count: u32,
     wanted: &mut Vec<TextBox>,
 ) -> Result<(), NoMemory>
-    ensures { OnOk result (wanted.new.items ≡ wanted.old.items ++ replicate count (kind_letter Member ++ pointer.now)) }
+    ensures { OnOk result
+        (wanted.new.items
+        ≡ wanted.old.items ++ replicate count (kind_letter Member ++ pointer.now)) }
 {
     for _ in 0..count {
         let text = with_kind(alloc, SiteKind::Member, pointer)?;
@@ -64,9 +69,12 @@ fn push_members(
     Ok(())
 }
 
-// Where the element with this position stands, of the list with this pointer. Its digits are written as they are.
+// Where the element with this position stands, of the list with this pointer.
+// Its digits are written as they are.
 fn element_text(alloc: Global, pointer: &str, position: usize) -> Result<TextBox, NoMemory>
-    ensures { IfOk result (λ text. (at : Path) → pointer.now ≡ pointer_text at → text ≡ standing_text (standing Element (at ++ decimal position ∷ []))) }
+    ensures { IfOk result
+        (λ text. (at : Path) → pointer.now ≡ pointer_text at
+        → text ≡ standing_text (standing Element (at ++ decimal position ∷ []))) }
 {
     let mut digits = Buffer::new();
     let mut text = with_kind(alloc, SiteKind::Element, pointer)?;
@@ -84,7 +92,9 @@ fn push_elements(
     wanted: &mut Vec<TextBox>,
 ) -> Result<(), NoMemory>
     requires { first + count < 2 ^ 64 }
-    ensures { OnOk result ((at : Path) → pointer.now ≡ pointer_text at → wanted.new.items ≡ wanted.old.items ++ element_texts at first count) }
+    ensures { OnOk result
+        ((at : Path) → pointer.now ≡ pointer_text at
+        → wanted.new.items ≡ wanted.old.items ++ element_texts at first count) }
 {
     for i in 0..count as usize {
         wanted.push(element_text(alloc, pointer, first + i)?)?;
@@ -103,7 +113,11 @@ fn push_entry(
 ) -> Result<(), NoMemory>
     requires place { pointer.now ≡ pointer_text entry.now.at }
     requires few { before + entry.now.count ≤ count_max }
-    ensures { OnOk result (wanted.new.items ≡ wanted.old.items ++ entry_texts entry.now.at before entry.now.count (tree_at (tree_of payload.now) entry.now.at)) }
+    ensures { OnOk result
+        (wanted.new.items
+        ≡ wanted.old.items
+        ++ entry_texts entry.now.at before entry.now.count
+        (tree_at (tree_of payload.now) entry.now.at)) }
 {
     match find(payload, &entry.at) {
         Some(Tree::Object(_)) => push_members(alloc, pointer, entry.count, wanted),
@@ -118,7 +132,8 @@ fn push_entry(
 // Where the order wants its decoys.
 pub(crate) fn wanted_standings(alloc: Global, order: &Order) -> Result<Vec<TextBox>, NoMemory>
     requires { length (decoys_of (order_of order.now)) ≤ count_max }
-    ensures { IfOk result (λ wanted. wanted.items ≡ map standing_text (decoys_wanted (order_of order.now))) }
+    ensures { IfOk result
+        (λ wanted. wanted.items ≡ map standing_text (decoys_wanted (order_of order.now))) }
 {
     let mut counts = BTreeMap::new(alloc);
     let mut wanted = Vec::new(alloc);

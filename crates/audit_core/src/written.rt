@@ -50,8 +50,10 @@ fn read_one(
     reader: &mut JsonPartReader,
     text: &str,
 ) -> Result<Option<Given>, NoMemory>
-    ensures some { IfOk result (λ given. IfSome given (λ g. GivesSalted hash text.now (given_of g))) }
-    ensures depth { IfOk result (λ given. IfSome given (λ g. depth_of (tree_of g.value) ≤ json_depth_max)) }
+    ensures some { IfOk result
+        (λ given. IfSome given (λ g. GivesSalted hash text.now (given_of g))) }
+    ensures depth { IfOk result
+        (λ given. IfSome given (λ g. depth_of (tree_of g.value) ≤ json_depth_max)) }
     ensures none { IfOk result (λ given. IfNone given (IsUnsalted text.now)) }
 {
     let Some(Disclosed { name, value }) = reader.read_salted(alloc, text)? else {
@@ -106,7 +108,8 @@ fn read_payload(
     ensures some { IfOk result (λ read. IfSome read (λ body. IsWrittenAs part.now (tree_of body))) }
     ensures hash { IfOk result (λ read. IfSome read (λ body. NamesHash hash (tree_of body))) }
     ensures object { IfOk result (λ read. IfSome read (λ body. IsPayload (tree_of body))) }
-    ensures depth { IfOk result (λ read. IfSome read (λ body. depth_of (tree_of body) ≤ json_depth_max)) }
+    ensures depth { IfOk result
+        (λ read. IfSome read (λ body. depth_of (tree_of body) ≤ json_depth_max)) }
     ensures none { IfOk result (λ read. IfNone read (IsOtherPayload hash part.now)) }
 {
     let Some(body) = reader.read(alloc, part)? else {
@@ -125,12 +128,18 @@ pub(crate) fn read_written(
     hidden: u32,
     token: &TokenView<'_>,
 ) -> Result<Option<Written>, NoMemory>
-    ensures some { IfOk result (λ read. IfSome read (λ w. IsWrittenWith hash hidden token.now.parts (tree_of w.body) w.given)) }
+    ensures some { IfOk result
+        (λ read.
+        IfSome read (λ w. IsWrittenWith hash hidden token.now.parts (tree_of w.body) w.given)) }
     ensures object { IfOk result (λ read. IfSome read (λ w. IsPayload (tree_of w.body))) }
-    ensures depth { IfOk result (λ read. IfSome read (λ w. depth_of (tree_of w.body) ≤ json_depth_max)) }
+    ensures depth { IfOk result
+        (λ read. IfSome read (λ w. depth_of (tree_of w.body) ≤ json_depth_max)) }
     ensures shallow { IfOk result (λ read. IfSome read (λ w. ValuesShallow w.given)) }
     ensures count { IfOk result (λ read. IfSome read (λ w. length w.given ≡ hidden)) }
-    ensures none { IfOk result (λ read. IfNone read ((body : SeenTree) (given : List SeenGiven) → IsWrittenWith hash hidden token.now.parts body given → ⊥)) }
+    ensures none { IfOk result
+        (λ read. IfNone read
+        ((body : SeenTree) (given : List SeenGiven)
+        → IsWrittenWith hash hidden token.now.parts body given → ⊥)) }
 {
     let count = token.count();
     if count != hidden as usize {

@@ -1,5 +1,5 @@
--- Base64url without padding, RFC 4648 section 5: the alphabet (table 2), the texts that are made of its
--- letters, and the text of bytes. There is no definition of decoding: it is the inverse.
+-- Base64url without padding, RFC 4648 section 5: the alphabet (table 2), the texts that are made of
+-- its letters, and the text of bytes. There is no definition of decoding: it is the inverse.
 use Rattle.std.specs.Prelude.{◌≡◌, ◌<◌, ℕ, ◌+◌, ◌*◌, ◌/◌, ◌%◌, ◌==◌, Bool, true, List, [], ◌∷◌, ◌++◌, map, length, slice_index, codes}
 use Rattle.std.specs.List.{list_any, list_all}
 
@@ -17,7 +17,9 @@ pub record IsWord (text : List ℕ) : Type 0 where
 
 -- the bits of a byte, the highest first
 abbrev pub bits_of : ℕ → List ℕ
-bits_of x = x / 128 % 2 ∷ x / 64 % 2 ∷ x / 32 % 2 ∷ x / 16 % 2 ∷ x / 8 % 2 ∷ x / 4 % 2 ∷ x / 2 % 2 ∷ x % 2 ∷ []
+bits_of x =
+    x / 128 % 2 ∷ x / 64 % 2 ∷ x / 32 % 2 ∷ x / 16 % 2 ∷ x / 8 % 2 ∷ x / 4 % 2 ∷ x / 2 % 2 ∷ x % 2
+    ∷ []
 
 -- the bits of the bytes, one byte after another
 unfoldable pub bits : List ℕ → List ℕ

@@ -29,7 +29,8 @@ pub fn decode(alloc: Global, text: &[u8]) -> Result<ByteBox, DecodeError>
     }
 }
 
-/// Writes the bytes of the text to the front of the room, and answers how many they are. It takes no memory.
+/// Writes the bytes of the text to the front of the room, and answers how many
+/// they are. It takes no memory.
 ///
 /// After a refusal the room holds any bytes.
 pub fn decode_into(text: &[u8], room: &mut [u8]) -> Result<usize, NotBase64>

@@ -10,8 +10,8 @@ pub(crate) const LANES: usize = 32;
 
 pub(crate) const WIDE: usize = 64;
 
-// The letters by the high four bits of their code. Each class is a bit, and a byte is a letter where the
-// class of its high four bits has its low four bits.
+// The letters by the high four bits of their code. Each class is a bit, and a byte is a letter
+// where the class of its high four bits has its low four bits.
 const DASH: u8 = 1; // 0x2D
 
 const DIGITS: u8 = 2; // 0x30 to 0x39
@@ -81,7 +81,8 @@ pub(crate) fn letters_at(text: &[u8], at: usize) -> usize
 pub(crate) fn are_letters(text: &[u8], at: usize) -> bool
     requires { at + WIDE ≤ length text.now }
     ensures first { IsTrue result → prefix_len letter_test (take LANES (drop at text.now)) ≡ LANES }
-    ensures second { IsTrue result → prefix_len letter_test (take LANES (drop (at + LANES) text.now)) ≡ LANES }
+    ensures second { IsTrue result
+        → prefix_len letter_test (take LANES (drop (at + LANES) text.now)) ≡ LANES }
 {
     strays_at(text, at) | strays_at(text, at + LANES) == 0
 }

@@ -20,7 +20,8 @@ fn short_word_len(text: &[u8]) -> usize
 // The number of letters at the front, as far as they fill runs of 64 bytes.
 fn wide_len(text: &[u8]) -> usize
     ensures within { result ≤ length text.now }
-    ensures counted { result + prefix_len letter_test (drop result text.now) ≡ prefix_len letter_test text.now }
+    ensures counted { result + prefix_len letter_test (drop result text.now)
+        ≡ prefix_len letter_test text.now }
 {
     let mut at = 0;
     while text.len() - at >= WIDE && are_letters(text, at) {

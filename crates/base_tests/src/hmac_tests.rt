@@ -13,7 +13,8 @@ use std::test::Fail;
 
 #[test]
 fn codes_of_rfc_4231(rt: HostRuntime) {
-    // cases 1 to 7; of the fifth it has the first 16 bytes, and the keys of the last two are longer than a block
+    // cases 1 to 7; of the fifth it has the first 16 bytes, and the keys of the
+    // last two are longer than a block
     for (key, text, codes) in [
         (
             [0x0b; 20].as_slice(),
@@ -124,8 +125,8 @@ fn rfc_key(alloc: Global) -> Result<Hs256Key, Fail> {
     Ok(Hs256Key::new(bytes.bytes()).map_err(|_| "the key is short")?)
 }
 
-// The text of a signature, whether the key accepts it, and whether it does with the parts exchanged and of one byte
-// less.
+// The text of a signature, whether the key accepts it, and whether it does with
+// the parts exchanged and of one byte less.
 fn told(alloc: Global, key: &mut Hs256Key) -> Result<(TextBox, [bool; 3]), Fail> {
     let signature = key.sign(alloc, HEAD, BODY).map_err(|_| "not signed")?;
     let bytes = signature.bytes();

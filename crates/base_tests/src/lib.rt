@@ -1,5 +1,5 @@
-//! Tests of the crates below the verdict, of what no run of the program shows. They stand apart from the code because a
-//! crate with tests is proved twice.
+//! Tests of the crates below the verdict, of what no run of the program shows. They stand apart
+//! from the code because a crate with tests is proved twice.
 #![tactic(auto)]
 
 #[cfg(test)]

@@ -74,7 +74,8 @@ fn add(
     Ok(())
 }
 
-// The disclosures of a text, with `|` between them: of each its digest, its name or `-`, and its value.
+// The disclosures of a text, with `|` between them: of each its digest, its
+// name or `-`, and its value.
 fn given(alloc: Global, text: &str) -> Result<GivenList, Fail>
     ensures depths { IfOk result ValuesShallow }
     ensures few { IfOk result (λ list. length list < 2 ^ 32 - 1) }
@@ -147,7 +148,8 @@ fn answer_on(
     }
 }
 
-// Digests that no text has, and disclosures that lead in a circle. Of what is opened the places are shown, too.
+// Digests that no text has, and disclosures that lead in a circle. Of what is
+// opened the places are shown, too.
 #[test]
 fn digests_may_lead_in_a_circle(rt: HostRuntime) -> Result<(), Fail> {
     let alloc = rt.alloc();

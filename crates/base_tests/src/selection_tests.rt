@@ -139,12 +139,16 @@ fn each_chosen_place_is_asked_for(rt: HostRuntime) -> Result<(), Fail> {
     Ok(())
 }
 
-// Asks a rule that allows places of one step at most: what it says of a place is known to who keeps it.
+// Asks a rule that allows places of one step at most: what it says of a place
+// is known to who keeps it.
 fn judge_steps(alloc: Global, marked: &Marked, chosen: &ChosenSet) -> Result<(), AllowError>
     requires depth { depth (strip_of (marked_of marked.now)) ≤ json_depth_max }
     requires once { StandOnce (marked_of marked.now) (has chosen.now) }
-    ensures allowed { IfOk result (λ _. (i : ℕ) (at : Steps) → has chosen.now i ≡ true → mark_path (marked_of marked.now) i ≡ Some at → length at ≤ 1) }
-    ensures refused { (i : ℕ) → result ≡ Err (Refused i) → (at : Steps) × (mark_path (marked_of marked.now) i ≡ Some at) × (1 < length at) }
+    ensures allowed { IfOk result
+        (λ _. (i : ℕ) (at : Steps) → has chosen.now i ≡ true
+        → mark_path (marked_of marked.now) i ≡ Some at → length at ≤ 1) }
+    ensures refused { (i : ℕ) → result ≡ Err (Refused i)
+        → (at : Steps) × (mark_path (marked_of marked.now) i ≡ Some at) × (1 < length at) }
 {
     let consent = Consent::new(|place: &Path| place.len() <= 1);
     allow(alloc, &consent, marked, chosen)

@@ -47,7 +47,9 @@ mutual
 
   pub elements_inj : (x y : Elements) → elements_to x ≡ elements_to y → x ≡ y
   elements_inj no_elements no_elements e = refl
-  elements_inj (element t es) (element u fs) e = ap₂ element (tree_inj t u (gcons_same _ _ _ _ e).0) (elements_inj es fs (gcons_same _ _ _ _ e).1)
+  elements_inj (element t es) (element u fs) e =
+      ap₂ element (tree_inj t u (gcons_same _ _ _ _ e).0)
+      (elements_inj es fs (gcons_same _ _ _ _ e).1)
   elements_inj x y e = cc
 
   pub members_inj : (x y : Members) → members_to x ≡ members_to y → x ≡ y

@@ -15,4 +15,5 @@ abbrev mutual
 
   pub members_pass : (Text → Tree → Bool) → Members → Bool
   members_pass test no_members = true
-  members_pass test (member name t ms) = test name t && (every_member test t && members_pass test ms)
+  members_pass test (member name t ms) =
+      test name t && (every_member test t && members_pass test ms)

@@ -9,13 +9,16 @@ abbrev mutual
   Everywhere OfLeaf OfList OfMember (array es) = OfList es × InElements OfLeaf OfList OfMember es
   Everywhere OfLeaf OfList OfMember (object ms) = InMembers OfLeaf OfList OfMember ms
 
-  pub InElements : (Leaf → Type 0) → (Elements → Type 0) → (Text → Tree → Type 0) → Elements → Type 0
+  pub InElements : (Leaf → Type 0) → (Elements → Type 0) → (Text → Tree → Type 0) → Elements
+      → Type 0
   InElements OfLeaf OfList OfMember no_elements = Unit {0}
-  InElements OfLeaf OfList OfMember (element t es) = Everywhere OfLeaf OfList OfMember t × InElements OfLeaf OfList OfMember es
+  InElements OfLeaf OfList OfMember (element t es) =
+      Everywhere OfLeaf OfList OfMember t × InElements OfLeaf OfList OfMember es
 
   pub InMembers : (Leaf → Type 0) → (Elements → Type 0) → (Text → Tree → Type 0) → Members → Type 0
   InMembers OfLeaf OfList OfMember no_members = Unit {0}
-  InMembers OfLeaf OfList OfMember (member name t ms) = OfMember name t × Everywhere OfLeaf OfList OfMember t × InMembers OfLeaf OfList OfMember ms
+  InMembers OfLeaf OfList OfMember (member name t ms) =
+      OfMember name t × Everywhere OfLeaf OfList OfMember t × InMembers OfLeaf OfList OfMember ms
 
 -- of each member with its name
 abbrev pub EachMember : (Text → Tree → Type 0) → Tree → Type 0

@@ -19,10 +19,13 @@ deep-le (Tree.Text s) = omega arith
 deep-le (Tree.List es) = omega arith
 deep-le (Tree.Object ms) = omega arith
 
-pub most-elements : (ts : List Tree) → most (λ t. deep-Tree t) ts ≤ 2 * elements_nodes (elements_of ts)
+pub most-elements : (ts : List Tree)
+    → most (λ t. deep-Tree t) ts ≤ 2 * elements_nodes (elements_of ts)
 most-elements [] = omega arith
 most-elements (t ∷ ts) = omega (arith, deep-le t, most-elements ts)
 
-pub most-members : (ms : List (Text × Tree)) → most (λ x. (weighed-TreeMap-members-at-2).weight the_data (λ t. deep-Tree t) x) ms ≤ 2 * members_nodes (members_of ms)
+pub most-members : (ms : List (Text × Tree))
+    → most (λ x. (weighed-TreeMap-members-at-2).weight the_data (λ t. deep-Tree t) x) ms
+    ≤ 2 * members_nodes (members_of ms)
 most-members [] = omega arith
 most-members (m ∷ ms) = omega (arith, deep-le m.1, most-members ms)

@@ -75,13 +75,16 @@ pub data MemberMeets (entry : Entry) (ms : Members) : Type 0 where
 
 -- the member is not there and must be, or is there without its form
 pub data MemberFails (entry : Entry) (ms : Members) (fault : FileFault) : Type 0 where
-  missing : found ms entry.field ≡ None → entry.is_required ≡ true → fault ≡ Missing entry.field → MemberFails entry ms fault
-  wrong : (t : Tree) → found ms entry.field ≡ Some t → (entry.Form t → ⊥) → fault ≡ Wrong entry.field → MemberFails entry ms fault
+  missing : found ms entry.field ≡ None → entry.is_required ≡ true → fault ≡ Missing entry.field
+      → MemberFails entry ms fault
+  wrong : (t : Tree) → found ms entry.field ≡ Some t → (entry.Form t → ⊥)
+      → fault ≡ Wrong entry.field → MemberFails entry ms fault
 
 -- the fault of the first member, in the order of the table, that is missing or wrong
 abbrev pub IsFirstFault : List Entry → Members → FileFault → Type 0
 IsFirstFault [] ms fault = ⊥
-IsFirstFault (entry ∷ table) ms fault = MemberFails entry ms fault ⊎ (MemberMeets entry ms × IsFirstFault table ms fault)
+IsFirstFault (entry ∷ table) ms fault =
+    MemberFails entry ms fault ⊎ (MemberMeets entry ms × IsFirstFault table ms fault)
 
 -- ---- the file
 
@@ -109,24 +112,28 @@ pub record IsNotObject (most : ℕ) (bytes : Text) : Type 0 where
   pub reads : Reads bytes tree
   pub other : (ms : Members) → tree ≢ object ms
 
--- why a file is no object of such members, in the order in which it is judged; want of memory says nothing
+-- why a file is no object of such members, in the order in which it is judged;
+-- want of memory says nothing
 abbrev pub HasNoMembers : ℕ → List Field → Text → FileFault → Type 0
 HasNoMembers most fields bytes Memory = Unit {0}
 HasNoMembers most fields bytes TooLong = most < length bytes
 HasNoMembers most fields bytes NotJson = (length bytes ≤ most) × IsNotJson bytes
 HasNoMembers most fields bytes NotWhole = (length bytes ≤ most) × IsNotWhole bytes
 HasNoMembers most fields bytes NotObject = IsNotObject most bytes
-HasNoMembers most fields bytes Unknown = (ms : Members) × IsObjectFile most bytes ms × (has_unknown fields ms ≡ true)
+HasNoMembers most fields bytes Unknown =
+    (ms : Members) × IsObjectFile most bytes ms × (has_unknown fields ms ≡ true)
 HasNoMembers most fields bytes (Missing field) = ⊥
 HasNoMembers most fields bytes (Wrong field) = ⊥
 
 -- the file has known members, and this is the first fault of them
-pub record HasFirstFault (most : ℕ) (table : List Entry) (bytes : Text) (fault : FileFault) : Type 0 where
+pub record HasFirstFault (most : ℕ) (table : List Entry) (bytes : Text) (fault : FileFault)
+    : Type 0 where
   pub members : Members
   pub file : HasMembers most (fields_of table) bytes members
   pub first : IsFirstFault table members fault
 
--- why a file is refused: it is no object of known members, or else by the first fault of them; want of memory says nothing
+-- why a file is refused: it is no object of known members, or else by the first
+-- fault of them; want of memory says nothing
 abbrev pub IsFileRefused : ℕ → List Entry → Text → FileFault → Type 0
 IsFileRefused most table bytes (Missing field) = HasFirstFault most table bytes (Missing field)
 IsFileRefused most table bytes (Wrong field) = HasFirstFault most table bytes (Wrong field)

@@ -1,5 +1,5 @@
--- Not needed to believe the program's promises: lists that begin with a text, read without it and written without making
--- them.
+-- Not needed to believe the program's promises: lists that begin with a text,
+-- read without it and written without making them.
 use Rattle.std.specs.Prelude.{Option, Some, None}
 use Rattle.claim_tree.specs.Tree as spec
 use Rattle.claim_tree.specs.Tree.{Text, text, leaf, array, Elements, no_elements, element}
@@ -24,10 +24,12 @@ kept_tree (TailOrTree.Tree t) = tree_of t
 
 -- the text reads to this, or to the list of some text and these
 abbrev pub ReadsTail : Text → TailOrTree → Type 0
-ReadsTail bytes (TailOrTree.Tail tail) = (first : Text) × Reads bytes (array (element (leaf (text first)) (tail_elements tail)))
+ReadsTail bytes (TailOrTree.Tail tail) =
+    (first : Text) × Reads bytes (array (element (leaf (text first)) (tail_elements tail)))
 ReadsTail bytes (TailOrTree.Tree t) = Reads bytes (tree_of t)
 
 -- the elements of a list: a text, another where there is one, and a tree
 abbrev pub short_list : Text → Option Text → spec.Tree → Elements
 short_list first None last = element (leaf (text first)) (element last no_elements)
-short_list first (Some second) last = element (leaf (text first)) (element (leaf (text second)) (element last no_elements))
+short_list first (Some second) last =
+    element (leaf (text first)) (element (leaf (text second)) (element last no_elements))

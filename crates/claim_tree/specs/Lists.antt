@@ -18,7 +18,8 @@ In x (y ∷ ys) = (x ≡ y) ⊎ In x ys
 
 -- the element at a position equals an earlier one
 abbrev pub Repeats : {X : Type 0} → List X → ℕ → Type 0
-Repeats {X} xs position = (x : X) × StandsAt xs position x × (earlier : ℕ) × (earlier < position) × StandsAt xs earlier x
+Repeats {X} xs position =
+    (x : X) × StandsAt xs position x × (earlier : ℕ) × (earlier < position) × StandsAt xs earlier x
 
 -- nothing fails, at any position
 abbrev pub AtNone : (ℕ → Type 0) → Type 0

@@ -14,5 +14,7 @@ pub record IsPosition (ms : List (Text × Tree)) (name : Text) (i : ℕ) : Type 
 -- the names before i come before the name, and the others after it
 pub record IsGap (ms : List (Text × Tree)) (name : Text) (i : ℕ) : Type 0 where
   pub within : i ≤ length ms
-  pub before : (k : ℕ) (d : Text × Tree) → k < i → slice_cmp nat_cmp (slice_index_or ms k d).0 name ≡ Less
-  pub after : (k : ℕ) (d : Text × Tree) → i ≤ k → k < length ms → slice_cmp nat_cmp (slice_index_or ms k d).0 name ≡ Greater
+  pub before : (k : ℕ) (d : Text × Tree) → k < i
+      → slice_cmp nat_cmp (slice_index_or ms k d).0 name ≡ Less
+  pub after : (k : ℕ) (d : Text × Tree) → i ≤ k → k < length ms
+      → slice_cmp nat_cmp (slice_index_or ms k d).0 name ≡ Greater

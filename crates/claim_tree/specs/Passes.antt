@@ -18,7 +18,9 @@ is_wanted wanted name = list_any (λ other. bytes_eq other.now name) wanted.name
 abbrev pub member_pass : Pass → Text → Option Pass
 member_pass First name = Some First
 member_pass Again name = Some Again
-member_pass (Named wanted) name = if is_wanted wanted name then Some (if bytes_eq wanted.whole.now name then Again else Named wanted) else None
+member_pass (Named wanted) name =
+    if is_wanted wanted name
+    then Some (if bytes_eq wanted.whole.now name then Again else Named wanted) else None
 
 -- the text was judged before
 abbrev pub is_later : Pass → Bool
@@ -30,7 +32,8 @@ abbrev pub with_seen : Text → Option Data → Members → Members
 with_seen name None ms = ms
 with_seen name (Some d) ms = member name d ms
 
--- with null in place of numbers that are not whole, where the text was judged before, and without what is passed over
+-- with null in place of numbers that are not whole, where the text was judged
+-- before, and without what is passed over
 abbrev mutual
   pub seen : Pass → Data → Data
   seen pass null = null
@@ -46,7 +49,9 @@ abbrev mutual
 
   pub seen_members : Pass → Members → Members
   seen_members pass no_members = no_members
-  seen_members pass (member name d ms) = with_seen name (option_map (λ inner. seen inner d) (member_pass pass name)) (seen_members pass ms)
+  seen_members pass (member name d ms) =
+      with_seen name (option_map (λ inner. seen inner d) (member_pass pass name))
+      (seen_members pass ms)
 
 -- the text reads to a value without a number that is not whole, of which the pass sees this tree
 pub record ReadsBy (pass : Pass) (bytes : Text) (t : Tree) : Type 0 where

@@ -21,7 +21,8 @@ pointer_text path = flat_map (λ step. codes "/" ++ escaped step) path
 -- the element whose position, counted from the given one, has the step as its decimal digits
 abbrev pub element_on : Elements → ℕ → Text → Option Tree
 element_on no_elements i step = None
-element_on (element t es) i step = if bytes_eq (decimal i) step then Some t else element_on es (suc i) step
+element_on (element t es) i step =
+    if bytes_eq (decimal i) step then Some t else element_on es (suc i) step
 
 -- the tree one step inside (RFC 6901 section 4)
 abbrev pub stepped : Tree → Text → Option Tree

@@ -126,7 +126,9 @@ members_len (member name t ms) = suc (members_len ms)
 -- the members, with this tree under the name
 abbrev pub inserted : Members → Text → Tree → Members
 inserted no_members name t = member name t no_members
-inserted (member other u ms) name t = match_ordering (slice_cmp nat_cmp other name) (member other u (inserted ms name t)) (member name t ms) (member name t (member other u ms))
+inserted (member other u ms) name t =
+    match_ordering (slice_cmp nat_cmp other name) (member other u (inserted ms name t))
+    (member name t ms) (member name t (member other u ms))
 
 -- the tree under a name
 abbrev pub member_named : Members → Text → Option Tree

@@ -27,8 +27,8 @@ pub(crate) const MOST_DEPTH: usize = 127;
 #[derive(Clone, Copy, Debug, PartialEq, Eq)]
 pub(crate) enum BuildError {
     Memory,
-    // The text is no JSON. When it is read for the first time, this may also be since a number is not whole, or since a
-    // great object has names that do not ascend.
+    // The text is no JSON. When it is read for the first time, this may also be since a number is
+    // not whole, or since a great object has names that do not ascend.
     NoTree,
 }
 
@@ -77,7 +77,8 @@ pub(crate) fn build_again(
     text: &str,
     pass: Pass<'_>,
 ) -> Result<Tree, BuildError>
-    ensures ok { IfOk result (λ t. option_map (seen pass.entry) (value_of_text text.now) ≡ Some (data_of (tree_of t))) }
+    ensures ok { IfOk result
+        (λ t. option_map (seen pass.entry) (value_of_text text.now) ≡ Some (data_of (tree_of t))) }
     ensures err { is_later pass.entry ≡ true → result ≡ Err NoTree → value_of_text text.now ≡ None }
 {
     let mut reader = Reader::new(text, scratch)?;
@@ -95,7 +96,8 @@ pub(crate) fn build(
     reader: &mut Reader<'_>,
     depth: usize,
 ) -> Result<Tree, BuildError>
-    ensures ok { IfOk result (λ t. converted of_json (value depth reader.old) ≡ Some (data_of (tree_of t), reader.new)) }
+    ensures ok { IfOk result
+        (λ t. converted of_json (value depth reader.old) ≡ Some (data_of (tree_of t), reader.new)) }
     ensures shorter { OnOk result (length reader.new < length reader.old) }
 {
     build_value(alloc, reader, depth, Pass::First)
@@ -109,8 +111,11 @@ fn build_value(
     depth: usize,
     pass: Pass<'_>,
 ) -> Result<Tree, BuildError>
-    ensures ok { IfOk result (λ t. parse_map (seen pass.entry) (converted of_json (value depth reader.old)) ≡ Some (data_of (tree_of t), reader.new)) }
-    ensures err { is_later pass.entry ≡ true → result ≡ Err NoTree → converted of_json (value depth reader.old) ≡ None }
+    ensures ok { IfOk result
+        (λ t. parse_map (seen pass.entry) (converted of_json (value depth reader.old))
+        ≡ Some (data_of (tree_of t), reader.new)) }
+    ensures err { is_later pass.entry ≡ true → result ≡ Err NoTree
+        → converted of_json (value depth reader.old) ≡ None }
     ensures shorter { OnOk result (length reader.new < length reader.old) }
 {
     let token = reader.next().ok_or(BuildError::NoTree)?;
@@ -143,7 +148,9 @@ pub(crate) fn inside(depth: usize) -> Result<usize, BuildError>
 
 // The tree of a number's text.
 fn number_tree(text: &str, pass: Pass<'_>) -> Result<Tree, BuildError>
-    ensures ok { IfOk result (λ t. option_map (λ n. seen pass.entry (number n)) (number_of text.now) ≡ Some (data_of (tree_of t))) }
+    ensures ok { IfOk result
+        (λ t. option_map (λ n. seen pass.entry (number n)) (number_of text.now)
+        ≡ Some (data_of (tree_of t))) }
     ensures err { is_later pass.entry ≡ true → result ≡ Err NoTree → number_of text.now ≡ None }
 {
     match whole_number(text) {
@@ -163,8 +170,12 @@ fn build_elements(
     depth: usize,
     pass: Pass<'_>,
 ) -> Result<TreeList, BuildError>
-    ensures ok { IfOk result (λ es. parse_map (seen_items pass.entry) (converted of_items (items (value depth) (length reader.old) reader.old)) ≡ Some (elements_data es, reader.new)) }
-    ensures err { is_later pass.entry ≡ true → result ≡ Err NoTree → converted of_items (items (value depth) (length reader.old) reader.old) ≡ None }
+    ensures ok { IfOk result
+        (λ es. parse_map (seen_items pass.entry)
+        (converted of_items (items (value depth) (length reader.old) reader.old))
+        ≡ Some (elements_data es, reader.new)) }
+    ensures err { is_later pass.entry ≡ true → result ≡ Err NoTree
+        → converted of_items (items (value depth) (length reader.old) reader.old) ≡ None }
     ensures shorter { OnOk result (length reader.new < length reader.old) }
 {
     let mut trees = TreeList::new(alloc);
@@ -182,8 +193,14 @@ fn build_object(
     depth: usize,
     pass: Pass<'_>,
 ) -> Result<TreeMap, BuildError>
-    ensures ok { IfOk result (λ ms. parse_map (seen_members pass.entry) (converted (λ found. of_members found no_members) (members (value depth) (length reader.old) reader.old)) ≡ Some (members_data ms, reader.new)) }
-    ensures err { is_later pass.entry ≡ true → result ≡ Err NoTree → converted (λ found. of_members found no_members) (members (value depth) (length reader.old) reader.old) ≡ None }
+    ensures ok { IfOk result
+        (λ ms. parse_map (seen_members pass.entry)
+        (converted (λ found. of_members found no_members)
+        (members (value depth) (length reader.old) reader.old))
+        ≡ Some (members_data ms, reader.new)) }
+    ensures err { is_later pass.entry ≡ true → result ≡ Err NoTree
+        → converted (λ found. of_members found no_members)
+        (members (value depth) (length reader.old) reader.old) ≡ None }
     ensures shorter { OnOk result (length reader.new < length reader.old) }
 {
     match pass {
@@ -210,7 +227,10 @@ fn build_members(
     reader: &mut Reader<'_>,
     depth: usize,
 ) -> Result<TreeMap, BuildError>
-    ensures ok { IfOk result (λ ms. converted (λ found. of_members found no_members) (members (value depth) (length reader.old) reader.old) ≡ Some (members_data ms, reader.new)) }
+    ensures ok { IfOk result
+        (λ ms. converted (λ found. of_members found no_members)
+        (members (value depth) (length reader.old) reader.old)
+        ≡ Some (members_data ms, reader.new)) }
     ensures shorter { OnOk result (length reader.new < length reader.old) }
 {
     let mut trees = TreeMap::new(alloc);
@@ -233,8 +253,14 @@ fn sort_members(
     depth: usize,
     pass: Pass<'_>,
 ) -> Result<BTreeMap<TextBox, Tree>, BuildError>
-    ensures ok { IfOk result (λ ms. parse_map (seen_members pass.entry) (converted (λ found. of_members found no_members) (members (value depth) (length reader.old) reader.old)) ≡ Some (members_data (members_of ms.entries), reader.new)) }
-    ensures err { is_later pass.entry ≡ true → result ≡ Err NoTree → converted (λ found. of_members found no_members) (members (value depth) (length reader.old) reader.old) ≡ None }
+    ensures ok { IfOk result
+        (λ ms. parse_map (seen_members pass.entry)
+        (converted (λ found. of_members found no_members)
+        (members (value depth) (length reader.old) reader.old))
+        ≡ Some (members_data (members_of ms.entries), reader.new)) }
+    ensures err { is_later pass.entry ≡ true → result ≡ Err NoTree
+        → converted (λ found. of_members found no_members)
+        (members (value depth) (length reader.old) reader.old) ≡ None }
     ensures shorter { OnOk result (length reader.new < length reader.old) }
 {
     let mut found = BTreeMap::new(alloc);
@@ -259,7 +285,9 @@ fn put_sorted(
     name: TextBox,
     tree: Tree,
 ) -> Result<(), NoMemory>
-    ensures { OnOk result (members_data (members_of members.new.entries) ≡ put name (data_of (tree_of tree)) (members_data (members_of members.old.entries))) }
+    ensures { OnOk result
+        (members_data (members_of members.new.entries)
+        ≡ put name (data_of (tree_of tree)) (members_data (members_of members.old.entries))) }
 {
     members.insert(name, tree)?;
     Ok(())

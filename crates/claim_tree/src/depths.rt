@@ -6,7 +6,8 @@ ghost use Rattle.claim_tree.specs.View.{tree_of};
 
 use crate::{Tree, TreeList, TreeMap};
 
-/// How deep a tree nests: 0 for a leaf, 1 for an empty array or object, else 1 more than the deepest inside.
+/// How deep a tree nests: 0 for a leaf, 1 for an empty array or object, else 1
+/// more than the deepest inside.
 #[cycle(depth)]
 pub fn depth(tree: &Tree) -> usize
     requires { depth_of (tree_of tree.now) ≤ json_depth_max }

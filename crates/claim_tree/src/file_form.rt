@@ -28,9 +28,11 @@ fn has_unknown(members: &TreeMap, fields: &[Field]) -> bool
         .any(|member| !is_known(member.0.as_str(), fields))
 }
 
-/// The members of the JSON object that a file is. It has no more bytes than `most`, and each member is one of `fields`.
+/// The members of the JSON object that a file is. It has no more bytes than
+/// `most`, and each member is one of `fields`.
 ///
-/// The faults are those of a file as a whole, in the order of [`FileFault`]; none of them is `Missing` or `Wrong`.
+/// The faults are those of a file as a whole, in the order of [`FileFault`];
+/// none of them is `Missing` or `Wrong`.
 pub fn read_members(
     alloc: Global,
     bytes: &[u8],
@@ -75,8 +77,11 @@ pub fn text_member(
 
 /// Copies of the texts of a list, or None where an element is no text.
 pub fn texts_of(alloc: Global, trees: &[Tree]) -> Result<Option<TextList>, NoMemory>
-    ensures texts { IfOk result (λ texts. IfSome texts (λ list. spec.text_elements list ≡ elements_of trees.now)) }
-    ensures none { IfOk result (λ texts. IfNone texts ((list : List Text) → spec.text_elements list ≢ elements_of trees.now)) }
+    ensures texts { IfOk result
+        (λ texts. IfSome texts (λ list. spec.text_elements list ≡ elements_of trees.now)) }
+    ensures none { IfOk result
+        (λ texts.
+        IfNone texts ((list : List Text) → spec.text_elements list ≢ elements_of trees.now)) }
 {
     let mut texts = TextList::new(alloc);
     for tree in trees {
@@ -124,7 +129,8 @@ pub fn whole_up_to(tree: &Tree, most: u32) -> Option<u32>
 /// The whole number from 0 to `most` of a member that a file need not have. It takes no memory.
 pub fn whole_member(members: &TreeMap, field: Field, most: u32) -> Result<Option<u32>, FileFault>
     ensures ok { IfOk result (MaySay (IsWholeUpTo most) (found members.now field)) }
-    ensures refused { IfErr result (IsMemberRefused (optional field (IsWholeUpTo most)) members.now) }
+    ensures refused { IfErr result
+        (IsMemberRefused (optional field (IsWholeUpTo most)) members.now) }
 {
     let Some(tree) = members.get(field.word()) else {
         return Ok(None);

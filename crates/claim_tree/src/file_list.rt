@@ -29,8 +29,11 @@ pub fn pointer_of(alloc: Global, tree: &Tree) -> Result<Option<Path>, NoMemory>
 // The paths of trees that are the texts of JSON Pointers, or None where one of them is none.
 #[tactic(auto, using(crate::proofs::ListForms::no_element, crate::proofs::ListForms::each_turn))]
 fn pointers_of(alloc: Global, trees: &[Tree]) -> Result<Option<PathList>, NoMemory>
-    ensures paths { IfOk result (λ paths. IfSome paths (EachSays IsPointer (elements_of trees.now))) }
-    ensures none { IfOk result (λ paths. IfNone paths ((list : List (List Text)) → EachSays IsPointer (elements_of trees.now) list → ⊥)) }
+    ensures paths { IfOk result
+        (λ paths. IfSome paths (EachSays IsPointer (elements_of trees.now))) }
+    ensures none { IfOk result
+        (λ paths. IfNone paths
+        ((list : List (List Text)) → EachSays IsPointer (elements_of trees.now) list → ⊥)) }
 {
     let mut paths = PathList::new(alloc);
     for tree in trees {
@@ -49,7 +52,8 @@ pub fn pointer_list_member(
     field: Field,
 ) -> Result<PathList, FileFault>
     ensures ok { IfOk result (SaysOr (IsListOf IsPointer) [] (found members.now field)) }
-    ensures refused { IfErr result (IsMemberRefused (optional field (IsListOf IsPointer)) members.now) }
+    ensures refused { IfErr result
+        (IsMemberRefused (optional field (IsListOf IsPointer)) members.now) }
 {
     let Some(tree) = members.get(field.word()) else {
         return Ok(PathList::new(alloc));

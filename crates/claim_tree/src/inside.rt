@@ -18,8 +18,8 @@ pub fn get<'a>(tree: &'a Tree, name: &str) -> Option<&'a Tree>
     }
 }
 
-/// The tree at a path (RFC 6901 section 4). In an array a step is a position in decimal digits, without a
-/// leading zero; `-` leads nowhere. It takes no memory.
+/// The tree at a path (RFC 6901 section 4). In an array a step is a position in decimal digits,
+/// without a leading zero; `-` leads nowhere. It takes no memory.
 pub fn find<'a>(tree: &'a Tree, path: &Path) -> Option<&'a Tree>
     ensures value { option_map (λ t. tree_of t.now) result ≡ tree_at (tree_of tree.now) path.now }
 {
@@ -28,7 +28,8 @@ pub fn find<'a>(tree: &'a Tree, path: &Path) -> Option<&'a Tree>
 
 /// The same, from the tree at which the first steps of the path have come, which are so many.
 pub fn find_behind<'a>(tree: &'a Tree, path: &Path, count: usize) -> Option<&'a Tree>
-    ensures value { option_map (λ t. tree_of t.now) result ≡ tree_at (tree_of tree.now) (drop count path.now) }
+    ensures value { option_map (λ t. tree_of t.now) result
+        ≡ tree_at (tree_of tree.now) (drop count path.now) }
 {
     let mut found = tree;
     for step in path.steps_behind(count) {
@@ -39,7 +40,8 @@ pub fn find_behind<'a>(tree: &'a Tree, path: &Path, count: usize) -> Option<&'a 
 
 // The tree one step inside.
 fn stepped<'a>(tree: &'a Tree, step: &str) -> Option<&'a Tree>
-    ensures value { option_map (λ t. tree_of t.now) result ≡ stepped_of (tree_of tree.now) step.now }
+    ensures value { option_map (λ t. tree_of t.now) result
+        ≡ stepped_of (tree_of tree.now) step.now }
 {
     match tree {
         Tree::List(trees) => trees.at(position(step, trees.len())?),
@@ -48,8 +50,8 @@ fn stepped<'a>(tree: &'a Tree, step: &str) -> Option<&'a Tree>
     }
 }
 
-/// The position whose decimal digits are the step. None where no position below the length has such digits. It takes
-/// no memory.
+/// The position whose decimal digits are the step. None where no position below
+/// the length has such digits. It takes no memory.
 pub fn position(step: &str, len: usize) -> Option<usize>
     ensures digits { IfSome result (λ i. decimal i ≡ step.now) }
     ensures there { IfSome result (λ i. i < len) }

@@ -38,7 +38,9 @@ pub(crate) fn judge(
     reader: &mut Reader<'_>,
     depth: usize,
 ) -> Result<bool, BuildError>
-    ensures ok { IfOk result (λ float. parse_map has_float (converted of_json (value depth reader.old)) ≡ Some (float, reader.new)) }
+    ensures ok { IfOk result
+        (λ float. parse_map has_float (converted of_json (value depth reader.old))
+        ≡ Some (float, reader.new)) }
     ensures err { result ≡ Err NoTree → converted of_json (value depth reader.old) ≡ None }
     ensures shorter { OnOk result (length reader.new < length reader.old) }
 {
@@ -58,8 +60,12 @@ pub(crate) fn judge(
 
 #[cycle(judge)]
 fn judge_elements(alloc: Global, reader: &mut Reader<'_>, depth: usize) -> Result<bool, BuildError>
-    ensures ok { IfOk result (λ float. parse_map items_have_float (converted of_items (items (value depth) (length reader.old) reader.old)) ≡ Some (float, reader.new)) }
-    ensures err { result ≡ Err NoTree → converted of_items (items (value depth) (length reader.old) reader.old) ≡ None }
+    ensures ok { IfOk result
+        (λ float. parse_map items_have_float
+        (converted of_items (items (value depth) (length reader.old) reader.old))
+        ≡ Some (float, reader.new)) }
+    ensures err { result ≡ Err NoTree
+        → converted of_items (items (value depth) (length reader.old) reader.old) ≡ None }
     ensures shorter { OnOk result (length reader.new < length reader.old) }
 {
     let mut float = false;
@@ -72,8 +78,14 @@ fn judge_elements(alloc: Global, reader: &mut Reader<'_>, depth: usize) -> Resul
 
 #[cycle(judge)]
 fn judge_members(alloc: Global, reader: &mut Reader<'_>, depth: usize) -> Result<bool, BuildError>
-    ensures ok { IfOk result (λ float. parse_map members_have_float (converted (λ found. of_members found no_members) (members (value depth) (length reader.old) reader.old)) ≡ Some (float, reader.new)) }
-    ensures err { result ≡ Err NoTree → converted (λ found. of_members found no_members) (members (value depth) (length reader.old) reader.old) ≡ None }
+    ensures ok { IfOk result
+        (λ float. parse_map members_have_float
+        (converted (λ found. of_members found no_members)
+        (members (value depth) (length reader.old) reader.old))
+        ≡ Some (float, reader.new)) }
+    ensures err { result ≡ Err NoTree
+        → converted (λ found. of_members found no_members)
+        (members (value depth) (length reader.old) reader.old) ≡ None }
     ensures shorter { OnOk result (length reader.new < length reader.old) }
 {
     let mut floats = BTreeSet::new(alloc);
@@ -84,8 +96,8 @@ fn judge_members(alloc: Global, reader: &mut Reader<'_>, depth: usize) -> Result
     Ok(!floats.is_empty())
 }
 
-// Notes of a name whether the value that was last read under it has a number that is not whole: the names of which this
-// is so are kept, and no others.
+// Notes of a name whether the value that was last read under it has a number that is not whole: the
+// names of which this is so are kept, and no others.
 fn note(
     alloc: Global,
     floats: &mut BTreeSet<TextBox>,

@@ -9,7 +9,8 @@ ghost use Rattle.claim_tree.specs.PointerRefusals.{IsNoPointer};
 
 /// The compact JSON text of a tree reads to this tree.
 pub fn read_of_written()
-    ensures { (t : Tree) → IsRanged t → IsOrdered t → depth t ≤ json_depth_max → value_of_text (json_text t) ≡ Some (data_of t) }
+    ensures { (t : Tree) → IsRanged t → IsOrdered t → depth t ≤ json_depth_max
+        → value_of_text (json_text t) ≡ Some (data_of t) }
 {}
 
 /// A text reads to at most one tree.

@@ -1,7 +1,8 @@
 //! JSON values without floats, and the paths into them.
 //!
-//! A [`Tree`] owns its texts. [`read`] and [`write`] are its JSON text (RFC 8259). A [`Path`] is a list of
-//! steps, each a text; its JSON Pointer (RFC 6901) is read by [`read_pointer`] and printed by [`print_path`].
+//! A [`Tree`] owns its texts. [`read`] and [`write`] are its JSON text (RFC
+//! 8259). A [`Path`] is a list of steps, each a text; its JSON Pointer (RFC
+//! 6901) is read by [`read_pointer`] and printed by [`print_path`].
 #![tactic(auto)]
 
 mod build;

@@ -13,9 +13,11 @@ pub(crate) struct Wanted<'a> {
 // One reading of a text.
 #[derive(Clone, Copy, Drop)]
 pub(crate) enum Pass<'a> {
-    // The first one: there is no tree where a number is not whole, or where the names of a great object do not ascend.
+    // The first one: there is no tree where a number is not whole, or where the
+    // names of a great object do not ascend.
     First,
-    // One of a text that was judged: null stands for each number that is not whole, and names may come in any order.
+    // One of a text that was judged: null stands for each number that is not
+    // whole, and names may come in any order.
     Again,
     // The same, and members that are not wanted are passed over.
     Named(Wanted<'a>),

@@ -8,11 +8,11 @@ use sd_outside::{ListOf, NoMemory, TextBox};
 use std::alloc::Global;
 use std::marker::Model;
 
-/// The way from a JSON value to one inside it, step by step: in an object the name of a member, in a list
-/// the digits of a position. Contracts see the list of the steps.
+/// The way from a JSON value to one inside it, step by step: in an object the name of a member, in
+/// a list the digits of a position. Contracts see the list of the steps.
 ///
-/// The steps stand in one text, each behind a slash, so that a path takes two pieces of memory and not one a step, and
-/// a pointer without escapes is its text.
+/// The steps stand in one text, each behind a slash, so that a path takes two pieces of memory and
+/// not one a step, and a pointer without escapes is its text.
 #[derive(Debug, Drop)]
 pub struct Path {
     text: String,
@@ -156,7 +156,8 @@ impl Path {
 
 // Where the steps of a pointer without escapes end.
 fn plain_ends(alloc: Global, pointer: &str) -> Result<Vec<usize>, NoMemory>
-    ensures { IfOk result (λ ends. ends.items ≡ slashes_from 1 (drop 1 pointer.now) ++ length pointer.now ∷ []) }
+    ensures { IfOk result
+        (λ ends. ends.items ≡ slashes_from 1 (drop 1 pointer.now) ++ length pointer.now ∷ []) }
 {
     let bytes = pointer.as_bytes();
     let mut ends = Vec::with_capacity(alloc, slashes(pointer))?;
@@ -174,8 +175,8 @@ pub(crate) fn slashes(text: &str) -> usize {
     text.as_bytes().iter().filter(|byte| **byte == b'/').count()
 }
 
-// Where the slash in front of a step stands, by the ends of the steps. At the number of the steps it is where the last
-// ends.
+// Where the slash in front of a step stands, by the ends of the steps. At the
+// number of the steps it is where the last ends.
 fn start_at(ends: &[usize], i: usize) -> usize
     requires { i ≤ length ends.now }
     ensures { result ≡ slice_index (0 ∷ ends.now) i }

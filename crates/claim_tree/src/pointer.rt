@@ -13,7 +13,8 @@ use std::alloc::{AllocError, Global};
 pub enum PointerError {
     /// There was no memory for the path.
     Memory,
-    /// It is none: it begins with another character than `/`, or has a `~` that neither `0` nor `1` follows.
+    /// It is none: it begins with another character than `/`, or has a `~` that
+    /// neither `0` nor `1` follows.
     Syntax,
 }
 
@@ -82,7 +83,8 @@ fn read_step(alloc: Global, written: &str) -> Result<TextBox, PointerError>
 
 // What a `~` and the first byte of the text behind it stand for, and what follows the two.
 fn read_escape(text: &str) -> Option<(&str, &str)>
-    ensures found { IfSome result (λ read. codes "~" ++ text.now ≡ escaped read.0.now ++ read.1.now) }
+    ensures found { IfSome result
+        (λ read. codes "~" ++ text.now ≡ escaped read.0.now ++ read.1.now) }
     ensures shorter { IfSome result (λ read. length read.1.now < length text.now) }
     ensures none { IfNone result (EndsNoEscape text.now) }
 {

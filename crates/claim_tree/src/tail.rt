@@ -33,7 +33,10 @@ pub(crate) fn build_tail(
     scratch: &mut Scratch,
     text: &str,
 ) -> Result<ListTail, BuildError>
-    ensures ok { IfOk result (λ tail. (first : Text) × (value_of_text text.now ≡ Some (data_of (array (element (leaf (text_leaf first)) (tail_elements tail)))))) }
+    ensures ok { IfOk result
+        (λ tail. (first : Text)
+        × (value_of_text text.now
+        ≡ Some (data_of (array (element (leaf (text_leaf first)) (tail_elements tail)))))) }
 {
     let mut reader = Reader::new(text, scratch)?;
     let Some(Token::BeginArray) = reader.next() else {
@@ -55,7 +58,9 @@ fn build_one_or_two(
     reader: &mut Reader<'_>,
     depth: usize,
 ) -> Result<ListTail, BuildError>
-    ensures ok { IfOk result (λ tail. converted of_items (items (value depth) (length reader.old) reader.old) ≡ Some (elements_data (tail_elements tail), reader.new)) }
+    ensures ok { IfOk result
+        (λ tail. converted of_items (items (value depth) (length reader.old) reader.old)
+        ≡ Some (elements_data (tail_elements tail), reader.new)) }
 {
     if reader.take_end_array() {
         return Err(BuildError::NoTree);

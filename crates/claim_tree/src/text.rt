@@ -28,7 +28,8 @@ use std::str;
 pub enum ReadError {
     /// There was no memory for the tree.
     Memory,
-    /// The bytes are not UTF-8, or no JSON text, or nest deeper than 127, or a number is too great for a float.
+    /// The bytes are not UTF-8, or no JSON text, or nest deeper than 127, or a
+    /// number is too great for a float.
     NotJson,
     /// A number has a fraction or an exponent, is `-0`, or is out of the range of 64 bits.
     NotWhole,
@@ -75,8 +76,8 @@ impl JsonReader {
         Ok(tree)
     }
 
-    /// The same, but of each object only the members with these names are kept, and of them the one named `whole` as it
-    /// stands. The others are judged as well, and no tree is made of them.
+    /// The same, but of each object only the members with these names are kept, and of them the one
+    /// named `whole` as it stands. The others are judged as well, and no tree is made of them.
     pub fn read_named(
         &mut self,
         alloc: Global,
@@ -84,7 +85,8 @@ impl JsonReader {
         names: &[&str],
         whole: &str,
     ) -> Result<Tree, ReadError>
-        ensures ok { IfOk result (λ t. ReadsKept (map (λ n. n.now) names.now) whole.now bytes.now (tree_of t)) }
+        ensures ok { IfOk result
+            (λ t. ReadsKept (map (λ n. n.now) names.now) whole.now bytes.now (tree_of t)) }
         ensures ordered { IfOk result (λ t. IsOrdered (tree_of t)) }
         ensures depth { IfOk result (λ t. depth_of (tree_of t) ≤ json_depth_max) }
         ensures unread { IfErr result (IsReadRefused bytes.now) }
@@ -140,7 +142,8 @@ fn read_again(alloc: Global, scratch: &mut Scratch, text: &str) -> Result<Tree, 
     read_judged(alloc, scratch, text, Pass::Again)
 }
 
-// What a later pass sees of a text, or why it has no tree. It is judged first, so nothing is kept of one that has none.
+// What a later pass sees of a text, or why it has no tree. It is judged first,
+// so nothing is kept of one that has none.
 fn read_judged(
     alloc: Global,
     scratch: &mut Scratch,
@@ -189,7 +192,8 @@ fn written_text(out: Writer) -> TextBox
 /// The compact JSON text of a tree: no blanks, the members ascending by the bytes of their names.
 pub fn write(alloc: Global, tree: &Tree) -> Result<TextBox, NoMemory>
     ensures ok { IfOk result (λ text. text ≡ json_text (tree_of tree.now)) }
-    ensures back { depth_of (tree_of tree.now) ≤ json_depth_max → IfOk result (λ text. Reads text (tree_of tree.now)) }
+    ensures back { depth_of (tree_of tree.now) ≤ json_depth_max
+        → IfOk result (λ text. Reads text (tree_of tree.now)) }
 {
     tree.invariant();
     let mut out = new_writer(alloc)?;
@@ -197,15 +201,26 @@ pub fn write(alloc: Global, tree: &Tree) -> Result<TextBox, NoMemory>
     Ok(written_text(out))
 }
 
-/// The same of the list of a text, another text where there is one, and a tree: the list is not made.
+/// The same of the list of a text, another text where there is one, and a tree:
+/// the list is not made.
 pub fn write_list(
     alloc: Global,
     first: &str,
     second: Option<&str>,
     last: &Tree,
 ) -> Result<TextBox, NoMemory>
-    ensures ok { IfOk result (λ text. text ≡ json_text (array (short_list first.now (option_map (λ s. s.now) second.entry) (tree_of last.now)))) }
-    ensures back { depth_of (tree_of last.now) ≤ 126 → IfOk result (λ text. Reads text (array (short_list first.now (option_map (λ s. s.now) second.entry) (tree_of last.now)))) }
+    ensures ok { IfOk result
+        (λ text. text
+        ≡ json_text
+        (array
+        (short_list first.now (option_map (λ s. s.now) second.entry)
+        (tree_of last.now)))) }
+    ensures back { depth_of (tree_of last.now) ≤ 126
+        → IfOk result
+        (λ text. Reads text
+        (array
+        (short_list first.now (option_map (λ s. s.now) second.entry)
+        (tree_of last.now)))) }
 {
     last.invariant();
     let mut out = new_writer(alloc)?;

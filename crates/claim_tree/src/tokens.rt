@@ -15,7 +15,8 @@ use std::alloc::AllocError;
 // Puts the tokens of a tree behind those that are written.
 #[cycle(put)]
 pub(crate) fn put_tree(out: &mut Writer, tree: &Tree) -> Result<(), AllocError>
-    ensures ok { OnOk result (out.new.tokens ≡ out.old.tokens ++ json_tokens (outline (data_of (tree_of tree.now)))) }
+    ensures ok { OnOk result
+        (out.new.tokens ≡ out.old.tokens ++ json_tokens (outline (data_of (tree_of tree.now)))) }
     ensures before { out.new.before ≡ out.old.before }
 {
     match tree {
@@ -40,7 +41,9 @@ pub(crate) fn put_texts(
     first: &str,
     second: Option<&str>,
 ) -> Result<(), AllocError>
-    ensures ok { OnOk result (out.new.tokens ≡ out.old.tokens ++ begun first.now (option_map (λ s. s.now) second.entry)) }
+    ensures ok { OnOk result
+        (out.new.tokens
+        ≡ out.old.tokens ++ begun first.now (option_map (λ s. s.now) second.entry)) }
     ensures before { out.new.before ≡ out.old.before }
 {
     out.begin_array()?;
@@ -52,7 +55,8 @@ pub(crate) fn put_texts(
 }
 
 fn put_whole(out: &mut Writer, whole: Whole) -> Result<(), AllocError>
-    ensures ok { OnOk result (out.new.tokens ≡ out.old.tokens ++ number (number_text (of_integer whole)) ∷ []) }
+    ensures ok { OnOk result
+        (out.new.tokens ≡ out.old.tokens ++ number (number_text (of_integer whole)) ∷ []) }
     ensures before { out.new.before ≡ out.old.before }
 {
     let n = whole.get();
@@ -66,7 +70,9 @@ fn put_whole(out: &mut Writer, whole: Whole) -> Result<(), AllocError>
 #[cycle(put)]
 #[tactic(auto, using(crate::proofs::Walks::into_element))]
 fn put_elements(out: &mut Writer, trees: &TreeList) -> Result<(), AllocError>
-    ensures ok { OnOk result (out.new.tokens ≡ out.old.tokens ++ items_tokens (items_outline (elements_data trees.now))) }
+    ensures ok { OnOk result
+        (out.new.tokens
+        ≡ out.old.tokens ++ items_tokens (items_outline (elements_data trees.now))) }
     ensures before { out.new.before ≡ out.old.before }
 {
     for tree in trees.trees() {
@@ -78,7 +84,9 @@ fn put_elements(out: &mut Writer, trees: &TreeList) -> Result<(), AllocError>
 #[cycle(put)]
 #[tactic(auto, using(crate::proofs::Walks::into_member))]
 fn put_members(out: &mut Writer, trees: &TreeMap) -> Result<(), AllocError>
-    ensures ok { OnOk result (out.new.tokens ≡ out.old.tokens ++ members_tokens (members_outline (members_data trees.now))) }
+    ensures ok { OnOk result
+        (out.new.tokens
+        ≡ out.old.tokens ++ members_tokens (members_outline (members_data trees.now))) }
     ensures before { out.new.before ≡ out.old.before }
 {
     for (name, tree) in trees.members() {

@@ -48,7 +48,8 @@ impl Model for TreeList {
 
     ghost view = { λ l. elements_of l.trees.items };
 
-    ghost invariant = { λ l. ElementsOrdered (elements_of l.trees.items) × ElementsRanged (elements_of l.trees.items) };
+    ghost invariant = { λ l.
+        ElementsOrdered (elements_of l.trees.items) × ElementsRanged (elements_of l.trees.items) };
 
     ghost size = { elements_size };
 
@@ -58,7 +59,8 @@ impl Model for TreeList {
     ghost size_decreases = { λ l h. omega (arith, most-elements l.trees.items) };
 }
 
-/// The members of an object, ascending by the bytes of their names, each name once. Contracts see them in this order.
+/// The members of an object, ascending by the bytes of their names, each name
+/// once. Contracts see them in this order.
 #[cycle(tree)]
 #[derive(Debug, Drop)]
 pub struct TreeMap {
@@ -80,7 +82,8 @@ impl Model for TreeMap {
 
     ghost view = { λ m. members_of m.members.items };
 
-    ghost invariant = { λ m. MembersOrdered (members_of m.members.items) × MembersRanged (members_of m.members.items) };
+    ghost invariant = { λ m.
+        MembersOrdered (members_of m.members.items) × MembersRanged (members_of m.members.items) };
 
     ghost size = { members_size };
 
@@ -91,7 +94,8 @@ impl Model for TreeMap {
 }
 
 impl Tree {
-    /// What every tree is, by the invariants of what it holds. It does nothing, and is called for its clauses.
+    /// What every tree is, by the invariants of what it holds. It does nothing,
+    /// and is called for its clauses.
     pub fn invariant(&self)
         ensures ordered { IsOrdered (tree_of self.now) }
         ensures ranged { IsRanged (tree_of self.now) }
@@ -249,8 +253,8 @@ impl TreeMap {
         Some((name, tree))
     }
 
-    /// Puts a tree under a name, in place of the one that is there. A name behind all others costs one comparison and
-    /// moves no member.
+    /// Puts a tree under a name, in place of the one that is there. A name behind all others costs
+    /// one comparison and moves no member.
     pub fn insert(&mut self, name: TextBox, tree: Tree) -> Result<(), NoMemory>
         ensures ok { OnOk result (self.new ≡ inserted self.old name (tree_of tree)) }
         ensures err { OnErr result (self.new ≡ self.old) }
@@ -306,8 +310,8 @@ fn search_from_end(members: &[(TextBox, Tree)], name: &str) -> Result<usize, usi
     }
 }
 
-// Makes room for one more where there is none: for a first one alone, then for as many as there are. So what holds one
-// or none, as most that nest deep, takes no more memory than it needs.
+// Makes room for one more where there is none: for a first one alone, then for as many as there
+// are. So what holds one or none, as most that nest deep, takes no more memory than it needs.
 fn make_room<T>(items: &mut Vec<T>) -> Result<(), NoMemory>
     ensures { items.new.items ≡ items.old.items }
 {
@@ -323,7 +327,9 @@ fn put(members: &mut Vec<(TextBox, Tree)>, name: TextBox, tree: Tree) -> Result<
     requires members_range { MembersRanged (members_of members.old.items) }
     requires tree { IsOrdered (tree_of tree) }
     requires tree_range { IsRanged (tree_of tree) }
-    ensures ok { OnOk result (members_of members.new.items ≡ inserted (members_of members.old.items) name (tree_of tree)) }
+    ensures ok { OnOk result
+        (members_of members.new.items
+        ≡ inserted (members_of members.old.items) name (tree_of tree)) }
     ensures ordered { MembersOrdered (members_of members.new.items) }
     ensures ranged { MembersRanged (members_of members.new.items) }
     ensures err { OnErr result (members_of members.new.items ≡ members_of members.old.items) }
@@ -341,8 +347,10 @@ fn put(members: &mut Vec<(TextBox, Tree)>, name: TextBox, tree: Tree) -> Result<
 fn take(members: &mut Vec<(TextBox, Tree)>, name: &str) -> Option<Tree>
     requires ordered { MembersOrdered (members_of members.old.items) }
     requires ranged { MembersRanged (members_of members.old.items) }
-    ensures tree { option_map tree_of result ≡ member_named (members_of members.old.items) name.now }
-    ensures others { members_of members.new.items ≡ removed (members_of members.old.items) name.now }
+    ensures tree { option_map tree_of result
+        ≡ member_named (members_of members.old.items) name.now }
+    ensures others { members_of members.new.items
+        ≡ removed (members_of members.old.items) name.now }
     ensures ordered { MembersOrdered (members_of members.new.items) }
     ensures ranged { MembersRanged (members_of members.new.items) }
 {

@@ -18,9 +18,12 @@ TellsMemory before after told = (told ≡ status.Memory) × Tells before after (
 -- the line of a stop was told; there may be no memory for that of a file that was not read
 abbrev pub TellsStop : Stop → Stream → Stream → Status → Type 0
 TellsStop Memory before after told = TellsMemory before after told
-TellsStop (Unread word) before after told = ((told ≡ status.Unread) × Tells before after (unread_text word)) ⊎ TellsMemory before after told
-TellsStop (Unreadable text) before after told = (told ≡ status.Unreadable) × Tells before after (string_bytes text)
-TellsStop (Refused text) before after told = (told ≡ status.Refused) × Tells before after (string_bytes text)
+TellsStop (Unread word) before after told =
+    ((told ≡ status.Unread) × Tells before after (unread_text word)) ⊎ TellsMemory before after told
+TellsStop (Unreadable text) before after told =
+    (told ≡ status.Unreadable) × Tells before after (string_bytes text)
+TellsStop (Refused text) before after told =
+    (told ≡ status.Refused) × Tells before after (string_bytes text)
 
 -- `out` and `err` before and after
 pub record Streams : Type 0 where
@@ -45,5 +48,8 @@ pub record PutsPrefix (text : List ℕ) (before after : Streams) (told : Status)
 
 -- the answer was written, or the line that tells why there is none
 abbrev pub Finishes : Result (String Global) Stop → Streams → Streams → Status → Type 0
-Finishes (Ok text) before after told = PutsWhole (string_bytes text) before after told ⊎ PutsPrefix (string_bytes text) before after told
-Finishes (Err stop) before after told = (after.out.written ≡ before.out.written) × TellsStop stop before.err after.err told
+Finishes (Ok text) before after told =
+    PutsWhole (string_bytes text) before after told
+    ⊎ PutsPrefix (string_bytes text) before after told
+Finishes (Err stop) before after told =
+    (after.out.written ≡ before.out.written) × TellsStop stop before.err after.err told

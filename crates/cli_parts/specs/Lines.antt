@@ -14,7 +14,8 @@ line text = text ++ (10 ∷ [])
 abbrev pub refusal : Fault → List ℕ
 refusal fault = line (fault_text fault)
 
--- the line of a file that was not read: its word is counted behind the command, here from 0 and in print from 1
+-- the line of a file that was not read: its word is counted behind the command,
+-- here from 0 and in print from 1
 abbrev pub unread_text : ℕ → List ℕ
 unread_text word = line (codes "unread " ++ decimal (word + 1))
 
@@ -31,7 +32,8 @@ reason (Wrong field) = codes "wrong " ++ field_word field
 
 -- the line of a file that is not of its form: its word is counted behind the command, from 1
 abbrev pub unreadable_line : ℕ → FileFault → List ℕ
-unreadable_line word fault = line (codes "unreadable " ++ (decimal word ++ (codes " " ++ reason fault)))
+unreadable_line word fault =
+    line (codes "unreadable " ++ (decimal word ++ (codes " " ++ reason fault)))
 
 -- the line of a seed file with too few bytes, the second of its command
 abbrev pub short_seed : List ℕ

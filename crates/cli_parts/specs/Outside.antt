@@ -22,10 +22,19 @@ pub record Outside : Type 0 where
   pub out : Stream
   pub err : Stream
 
-abbrev pub outside : {C O E : Type 0} → CabinetGhosts C → SinkGhosts O → SinkGhosts E → C → O → E → Outside
+abbrev pub outside : {C O E : Type 0} → CabinetGhosts C → SinkGhosts O → SinkGhosts E → C → O → E
+    → Outside
 outside says out_says err_says cabinet out err =
-    record { holds = says.holds cabinet; missed = says.missed cabinet; faults = says.faults cabinet; out = stream out_says out; err = stream err_says err }
+    record {
+      holds = says.holds cabinet;
+      missed = says.missed cabinet;
+      faults = says.faults cabinet;
+      out = stream out_says out;
+      err = stream err_says err;
+    }
 
 -- the text went to the sink, or the sink failed at it
 abbrev pub Tells : Stream → Stream → List ℕ → Type 0
-Tells before after text = Appends before.written after.written text ⊎ (Rose before.faults after.faults × AppendsPrefix before.written after.written text)
+Tells before after text =
+    Appends before.written after.written text
+    ⊎ (Rose before.faults after.faults × AppendsPrefix before.written after.written text)

@@ -1,7 +1,8 @@
 -- What a command answers over its files.
 use Rattle.std.specs.Prelude.{ℕ, List}
 
--- the bytes for standard output, or the line of a refusal, or that of a file that is not of its form
+-- the bytes for standard output, or the line of a refusal, or that of a file
+-- that is not of its form
 pub data Reply : Type 0 where
   gives : (answer : List ℕ) → Reply
   refuses : (text : List ℕ) → Reply

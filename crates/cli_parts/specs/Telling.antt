@@ -10,7 +10,8 @@ pub record TellsFault (IsRefused : Fault → Type 0) (text : List ℕ) : Type 0 
   pub refused : IsRefused fault
   pub line_is : text ≡ refusal fault
 
--- the first file is not of its form by such a fault, for another cause than want of memory, with this line
+-- the first file is not of its form by such a fault, for another cause than
+-- want of memory, with this line
 pub record TellsFileFault (IsRefused : FileFault → Type 0) (text : List ℕ) : Type 0 where
   pub fault : FileFault
   pub refused : IsRefused fault

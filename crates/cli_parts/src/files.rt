@@ -19,12 +19,14 @@ pub fn fetch_file<C: Cabinet>(
     most: usize,
     word: usize,
 ) -> Result<ByteBox, Stop>
-    ensures content { IfOk result (λ file. IfSome (C.holds cab.old name.now) (λ content. file ≡ take most content)) }
+    ensures content { IfOk result
+        (λ file. IfSome (C.holds cab.old name.now) (λ content. file ≡ take most content)) }
     ensures refuses { IfErr result (λ stop. OnRefused stop (λ _. ⊥)) }
     ensures unreadable { IfErr result (λ stop. OnUnreadable stop (λ _. ⊥)) }
     ensures unread { IfErr result (λ stop. OnUnread stop (λ k. k ≡ word)) }
     ensures missed { IfErr result (λ stop. OnUnread stop (λ _. C.missed cab.new ≡ Some name.now)) }
-    ensures rose { IfErr result (λ stop. OnUnread stop (λ _. Rose (C.faults cab.old) (C.faults cab.new))) }
+    ensures rose { IfErr result
+        (λ stop. OnUnread stop (λ _. Rose (C.faults cab.old) (C.faults cab.new))) }
     ensures held { (other : List ℕ) → C.holds cab.new other ≡ C.holds cab.old other }
     ensures later { C.faults cab.old ≤ C.faults cab.new }
 {

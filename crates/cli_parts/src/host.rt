@@ -26,7 +26,8 @@ impl Ending {
     // Tells it on `err`, and answers the status that it has.
     fn tell<E: Sink>(self, err: &mut E) -> Status
         ensures status { result ≡ (ending_row self).0 }
-        ensures told { Tells (stream E.Sink err.old) (stream E.Sink err.new) (line (ending_row self).1) }
+        ensures told { Tells (stream E.Sink err.old) (stream E.Sink err.new)
+            (line (ending_row self).1) }
         ensures later { E.faults err.old ≤ E.faults err.new }
     {
         match self {

@@ -1,5 +1,5 @@
-//! What the programs share around their commands: a file by its word, the policy of a file, why a command has no
-//! answer, and how a run ends.
+//! What the programs share around their commands: a file by its word, the policy of a file, why a
+//! command has no answer, and how a run ends.
 #![tactic(auto)]
 
 mod files;

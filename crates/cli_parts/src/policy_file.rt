@@ -11,7 +11,8 @@ use verifier_core::{Policy, read_policy};
 /// The policy of a file, or the line that tells why there is none.
 pub fn policy_of(alloc: Global, file: &[u8]) -> Result<Policy, Stop>
     ensures policy { IfOk result (IsPolicyFile file.now) }
-    ensures unreadable { IfErr result (λ stop. OnUnreadable stop (TellsFileFault (IsPolicyFileRefused file.now))) }
+    ensures unreadable { IfErr result
+        (λ stop. OnUnreadable stop (TellsFileFault (IsPolicyFileRefused file.now))) }
     ensures fit { IfErr result (λ stop. OnRefused stop (λ _. ⊥)) }
     ensures read { IfErr result (λ stop. OnUnread stop (λ _. ⊥)) }
 {

@@ -64,7 +64,8 @@ fn unreadable(alloc: Global, fault: FileFault) -> Stop
 /// What the first file of a command says, or the line that tells why it is not of its form.
 pub fn readable<T>(alloc: Global, said: Result<T, FileFault>) -> Result<T, Stop>
     ensures said { IfOk result (λ value. said ≡ Ok value) }
-    ensures unreadable { IfErr result (λ stop. OnUnreadable stop (TellsFileFault (λ fault. said ≡ Err fault))) }
+    ensures unreadable { IfErr result
+        (λ stop. OnUnreadable stop (TellsFileFault (λ fault. said ≡ Err fault))) }
     ensures fit { IfErr result (λ stop. OnRefused stop (λ _. ⊥)) }
     ensures read { IfErr result (λ stop. OnUnread stop (λ _. ⊥)) }
 {

@@ -1,4 +1,5 @@
-// What a run leaves where a file or a stream fails, and that the same objects serve the same run again.
+// What a run leaves where a file or a stream fails, and that the same objects
+// serve the same run again.
 use crate::fetch_tests::{FILES, words_of};
 use Failing::{Fetch, Line, Output};
 use sd_outside::{MemCabinet, MemSink, NoMemory};

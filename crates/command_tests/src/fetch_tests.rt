@@ -81,8 +81,8 @@ pub(crate) fn words_of(alloc: Global, words: &str) -> Result<Vec<String>, Fail> 
     Ok(list)
 }
 
-// What a run of these words over the files leaves: its status, how often it put a piece on `out` and on `err`, and what
-// it asked for.
+// What a run of these words over the files leaves: its status, how often it put
+// a piece on `out` and on `err`, and what it asked for.
 fn left_by(alloc: Global, words: &str) -> Result<String, Fail> {
     let mut files = MemCabinet::new(alloc);
     for (name, text) in FILES {
@@ -114,7 +114,8 @@ fn each_file_is_fetched_once_and_the_answer_is_one_piece(rt: HostRuntime) -> Res
             "0 1 0 policy 16777217 token 16777217",
         ),
         ("convert flat token", "0 1 0 token 16777217"),
-        // a file that is refused is asked for no second time, and the next one is asked for all the same
+        // a file that is refused is asked for no second time, and the next one
+        // is asked for all the same
         ("split bad", "1 0 1 bad 16777217"),
         ("show bad", "1 0 1 bad 16777217"),
         ("verify bad token", "6 0 1 bad 16777217 token 16777217"),

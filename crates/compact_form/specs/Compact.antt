@@ -13,7 +13,8 @@ jwt j = j.protected ++ (codes "." ++ (j.payload ++ (codes "." ++ j.signature)))
 abbrev pub spelled : List (List ℕ) → List ℕ
 spelled disclosures = flat_map (λ disclosure. disclosure ++ codes "~") disclosures
 
--- the compact text up to and with its last tilde, over which a key binding token is made (section 4.3.1)
+-- the compact text up to and with its last tilde, over which a key binding
+-- token is made (section 4.3.1)
 abbrev pub hashed : Parts → List ℕ
 hashed parts = jwt parts.signed ++ (codes "~" ++ spelled parts.disclosures)
 

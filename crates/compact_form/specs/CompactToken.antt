@@ -1,4 +1,5 @@
--- Not needed to believe the program's promises: a compact token as it comes from a file: conditions 1 to 3 of a verifier, and its parts.
+-- Not needed to believe the program's promises: a compact token as it comes
+-- from a file: conditions 1 to 3 of a verifier, and its parts.
 use Rattle.std.specs.Prelude.{◌≡◌, ◌<◌, ℕ, true, List, length}
 use Rattle.sd_outside.specs.Limits.{count_max}
 use Rattle.compact_form.specs.declared.condition.Condition.{Condition}
@@ -12,8 +13,10 @@ use Rattle.compact_form.specs.Trim.{trimmed, is_too_long}
 -- each condition that fails, with its place
 pub data CompactFails (text : List ℕ) (fault : Fault) : Type 0 where
   too_long : fault ≡ unplaced Condition.TooLong → is_too_long text ≡ true → CompactFails text fault
-  form : (stop : ℕ) → fault ≡ placed Condition.Form stop → IsMisformedAt (trimmed text) stop → CompactFails text fault
-  too_much : (parts : Parts) → fault ≡ unplaced Condition.TooMuch → IsCompact parts (trimmed text) → count_max < length parts.disclosures → CompactFails text fault
+  form : (stop : ℕ) → fault ≡ placed Condition.Form stop → IsMisformedAt (trimmed text) stop
+      → CompactFails text fault
+  too_much : (parts : Parts) → fault ≡ unplaced Condition.TooMuch → IsCompact parts (trimmed text)
+      → count_max < length parts.disclosures → CompactFails text fault
 
 -- the lowest condition that fails
 abbrev pub IsCompactRefused : List ℕ → Fault → Type 0

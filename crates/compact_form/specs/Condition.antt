@@ -1,4 +1,5 @@
--- The conditions of a verifier, in the order in which they are judged: their numbers and their printed names.
+-- The conditions of a verifier, in the order in which they are judged: their
+-- numbers and their printed names.
 use Rattle.std.specs.Prelude.{ℕ, List, codes}
 use Rattle.compact_form.specs.declared.condition.Condition.{Condition}
 

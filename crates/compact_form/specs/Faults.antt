@@ -11,7 +11,8 @@ fault_number fault = fault.number
 
 -- the condition fails at this place
 abbrev pub fault_at : Condition → Place → Fault
-fault_at condition place = record { number = number_of condition; place = place; of_condition = (condition, refl) }
+fault_at condition place =
+    record { number = number_of condition; place = place; of_condition = (condition, refl) }
 
 -- it names no place
 abbrev pub unplaced : Condition → Fault

@@ -1,4 +1,5 @@
--- The lowest of what applies; what fails a condition, at which place, and the lowest condition that fails.
+-- The lowest of what applies; what fails a condition, at which place, and the
+-- lowest condition that fails.
 use Rattle.std.specs.Prelude.{◌≡◌, ℕ, ◌<◌, ◌≤◌, ◌⊎◌}
 use Rattle.compact_form.specs.declared.fault.Fault.{Fault}
 use Rattle.compact_form.specs.declared.fault.Place.{Place}
@@ -33,7 +34,8 @@ IsNoLater _ _ = Unit {0}
 -- the condition that the fault names fails, at its least place, and none lower
 pub record IsLowest (FailsSo : Condition → Place → Type 0) (fault : Fault) : Type 0 where
   pub fails : FailsSo (failed_of fault) fault.place
-  pub lowest : (other : Condition) (place : Place) → FailsSo other place → (fault.number < number_of other) ⊎ ((other ≡ failed_of fault) × IsNoLater fault.place place)
+  pub lowest : (other : Condition) (place : Place) → FailsSo other place
+      → (fault.number < number_of other) ⊎ ((other ≡ failed_of fault) × IsNoLater fault.place place)
 
 abbrev pub NoneFails : (Condition → Place → Type 0) → Type 0
 NoneFails FailsSo = (c : Condition) (place : Place) → FailsSo c place → ⊥

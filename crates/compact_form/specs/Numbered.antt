@@ -95,8 +95,10 @@ numbered Condition.BindingTime = refl
 
 -- two conditions of one number are one
 pub one_condition : (a b : Condition) → number_of a ≡ number_of b → a ≡ b
-one_condition a b same = let both : Some a ≡ Some b = sym (numbered a) ∙ (ap condition_of same ∙ numbered b) in cc both
+one_condition a b same =
+    let both : Some a ≡ Some b = sym (numbered a) ∙ (ap condition_of same ∙ numbered b) in cc both
 
 -- so a number has at most one
 pub one_numbered : (n : ℕ) → IsProp ((condition : Condition) × (n ≡ number_of condition))
-one_numbered n a b = Σ_prop_path (λ condition. ℕ_set n (number_of condition)) (one_condition a.0 b.0 (sym a.1 ∙ b.1))
+one_numbered n a b =
+    Σ_prop_path (λ condition. ℕ_set n (number_of condition)) (one_condition a.0 b.0 (sym a.1 ∙ b.1))

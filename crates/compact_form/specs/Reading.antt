@@ -13,7 +13,8 @@ abbrev pub field_after : Field → ℕ → Option Field
 field_after Protected byte = if byte == 46 then Some Payload else None
 field_after Payload byte = if byte == 46 then Some Signature else None
 field_after Signature byte = if byte == 126 then Some Piece else None
-field_after Piece byte = if byte == 126 then Some Piece else if byte == 46 then Some BindingPayload else None
+field_after Piece byte =
+    if byte == 126 then Some Piece else if byte == 46 then Some BindingPayload else None
 field_after BindingPayload byte = if byte == 46 then Some BindingSignature else None
 field_after BindingSignature byte = None
 
@@ -23,7 +24,9 @@ State = Field × Bool
 
 abbrev pub step : State → ℕ → Option State
 step state byte =
-    if is_letter byte then Some (state.0, true) else if state.1 then option_and_then (λ field. Some (field, false)) (field_after state.0 byte) else None
+    if is_letter byte then Some (state.0, true)
+    else if state.1
+    then option_and_then (λ field. Some (field, false)) (field_after state.0 byte) else None
 
 abbrev pub run : State → List ℕ → Option State
 run state [] = Some state

@@ -17,7 +17,9 @@ at_text (Some place) = codes " at " ++ place
 
 -- its number, its name and its place, without a line end
 abbrev pub refused_text : Refusal → Option (List ℕ) → List ℕ
-refused_text refusal place = codes "refused " ++ (decimal (refusal_number refusal) ++ (codes " " ++ (refusal_name refusal ++ at_text place)))
+refused_text refusal place =
+    codes "refused "
+    ++ (decimal (refusal_number refusal) ++ (codes " " ++ (refusal_name refusal ++ at_text place)))
 
 -- the line of a refusal, where there is one
 abbrev pub told_text : Option Refusal → Option (List ℕ) → List ℕ

@@ -20,8 +20,8 @@ fn is_too_long(text: &[u8], token: &[u8]) -> bool
 
 /// The parts of a token that stands in a file, or the lowest condition of 1 to 3 that fails.
 ///
-/// The blanks at both ends are cut off first. It takes no memory. A text that begins with `{` is a JSON
-/// serialization (RFC 9901 section 8), which is not read here: it is refused at byte 0.
+/// The blanks at both ends are cut off first. It takes no memory. A text that begins with `{` is a
+/// JSON serialization (RFC 9901 section 8), which is not read here: it is refused at byte 0.
 pub fn read_view(text: &[u8]) -> Result<View<'_>, Fault>
     ensures ok { IfOk result (ReadsCompact text.now) }
     ensures err { IfErr result (IsCompactRefused text.now) }

@@ -3,8 +3,8 @@ ghost use Rattle.compact_form.specs.Faults.{fault_at as fault_of, unplaced};
 
 use crate::{Fault, Place};
 
-/// A condition of a verifier, RFC 9901 section 7.3, with its number. Each is named for its failure, and they stand in
-/// the order in which they are judged.
+/// A condition of a verifier, RFC 9901 section 7.3, with its number. Each is named for its failure,
+/// and they stand in the order in which they are judged.
 #[derive(Clone, Copy, Debug, PartialEq, Eq)]
 pub enum Condition {
     /// A token is short enough.

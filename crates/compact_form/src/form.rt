@@ -43,7 +43,9 @@ pub fn parse(alloc: Global, text: &[u8]) -> Result<Parts, FormError>
 
 /// The number of disclosures of a compact text. It takes no memory.
 pub fn check(text: &[u8]) -> Result<usize, At>
-    ensures ok { IfOk result (λ count. (parts : TheParts) × (IsCompact parts text.now × (length parts.disclosures ≡ count))) }
+    ensures ok { IfOk result
+        (λ count.
+        (parts : TheParts) × (IsCompact parts text.now × (length parts.disclosures ≡ count))) }
     ensures err { IfErr result (λ at. IsMisformedAt text.now at.0) }
 {
     Ok(View::scan(text)?.count())

@@ -5,8 +5,8 @@ ghost use Rattle.compact_form.specs.Views.{jwt_of};
 
 use crate::JwtView;
 
-/// The three texts of a JWT that stands alone (RFC 7515 section 7.1), borrowed from it, or None where the text is no
-/// JWT. It takes no memory.
+/// The three texts of a JWT that stands alone (RFC 7515 section 7.1), borrowed from it, or None
+/// where the text is no JWT. It takes no memory.
 pub fn read_jwt(text: &str) -> Option<JwtView<'_>>
     ensures some { IfSome result (λ view. IsJwt (jwt_of view) text.now) }
     ensures none { IfNone result ((j : TheParts) → IsJwt j text.now → ⊥) }

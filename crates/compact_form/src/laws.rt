@@ -18,8 +18,10 @@ pub fn one_spelling()
 /// What is printed of parts is parsed to the same parts, and to no others.
 pub fn printed_is_parsed()
     ensures parsed { (parts : Parts) → AreWords parts → IsCompact parts (compact parts) }
-    ensures same { (parts other : Parts) → AreWords parts → IsCompact other (compact parts) → other ≡ parts }
-    ensures not_refused { (parts : Parts) (stop : ℕ) → AreWords parts → IsMisformedAt (compact parts) stop → ⊥ }
+    ensures same { (parts other : Parts) → AreWords parts → IsCompact other (compact parts)
+        → other ≡ parts }
+    ensures not_refused { (parts : Parts) (stop : ℕ) → AreWords parts
+        → IsMisformedAt (compact parts) stop → ⊥ }
 {}
 
 /// What is printed of parts, within the limits, is read from a file as the same parts.
@@ -30,7 +32,8 @@ pub fn printed_is_read()
 
 /// What a key binding token hashes is the compact text up to and with its last tilde.
 pub fn hashed_is_front()
-    ensures { (parts : Parts) (text : List ℕ) → IsCompact parts text → IsUpToLastTilde text (hashed parts) }
+    ensures { (parts : Parts) (text : List ℕ) → IsCompact parts text
+        → IsUpToLastTilde text (hashed parts) }
 {}
 
 /// A text stops at one place.
@@ -40,13 +43,17 @@ pub fn one_stop()
 
 /// A text that is read is not refused, and one that is refused has one fault.
 pub fn one_verdict()
-    ensures not_both { (text : List ℕ) (parts : Parts) (fault : Fault) → ReadsCompact text parts → IsCompactRefused text fault → ⊥ }
-    ensures one_fault { (text : List ℕ) (f g : Fault) → IsCompactRefused text f → IsCompactRefused text g → f ≡ g }
-    ensures one_value { (text : List ℕ) (p q : Parts) → ReadsCompact text p → ReadsCompact text q → p ≡ q }
+    ensures not_both { (text : List ℕ) (parts : Parts) (fault : Fault) → ReadsCompact text parts
+        → IsCompactRefused text fault → ⊥ }
+    ensures one_fault { (text : List ℕ) (f g : Fault) → IsCompactRefused text f
+        → IsCompactRefused text g → f ≡ g }
+    ensures one_value { (text : List ℕ) (p q : Parts) → ReadsCompact text p → ReadsCompact text q
+        → p ≡ q }
 {}
 
 /// A condition has a number of its own, and a fault is that of one condition at one place.
 pub fn one_condition()
-    ensures one { (condition other : Condition) → number_of condition ≡ number_of other → condition ≡ other }
+    ensures one { (condition other : Condition) → number_of condition ≡ number_of other
+        → condition ≡ other }
     ensures fault { (fault : Fault) → fault ≡ fault_at (failed_of fault) fault.place }
 {}

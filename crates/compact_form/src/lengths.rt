@@ -5,7 +5,8 @@ ghost use Rattle.compact_form.specs.Compact.{jwt as jwt_text, spelled, compact};
 use crate::{JwtParts, Parts};
 use sd_outside::TextList;
 
-/// Whether the compact text of the parts has more bytes than `most`. It is not printed, and takes no memory.
+/// Whether the compact text of the parts has more bytes than `most`. It is not
+/// printed, and takes no memory.
 pub fn is_longer_than(parts: &Parts, most: usize) -> bool
     ensures { IsTrue result ↔ (most < length (compact parts.now)) }
 {
@@ -14,7 +15,8 @@ pub fn is_longer_than(parts: &Parts, most: usize) -> bool
 
 // What the compact text leaves of so many bytes, if it has no more.
 pub(crate) fn left_by_parts(most: usize, parts: &Parts) -> Option<usize>
-    ensures { SomeIff result (length (compact parts.now) ≤ most) (most - length (compact parts.now)) }
+    ensures { SomeIff result (length (compact parts.now) ≤ most)
+        (most - length (compact parts.now)) }
 {
     let left = left_by_jwt(most, &parts.signed)?.checked_sub(1)?;
     let left = left_by_disclosures(left, &parts.disclosures)?;
@@ -33,7 +35,8 @@ fn left_by_jwt(most: usize, jwt: &JwtParts) -> Option<usize>
 }
 
 fn left_by_disclosures(most: usize, disclosures: &TextList) -> Option<usize>
-    ensures { SomeIff result (length (spelled disclosures.now) ≤ most) (most - length (spelled disclosures.now)) }
+    ensures { SomeIff result (length (spelled disclosures.now) ≤ most)
+        (most - length (spelled disclosures.now)) }
 {
     let mut left = most;
     for disclosure in disclosures.elements() {

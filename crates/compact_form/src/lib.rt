@@ -1,13 +1,15 @@
-//! The compact serialization of an SD-JWT, RFC 9901 section 4: its grammar, its parts and its limits.
+//! The compact serialization of an SD-JWT, RFC 9901 section 4: its grammar, its
+//! parts and its limits.
 //!
-//! [`View::scan`] reads a text once and borrows its parts; [`parse`] copies them. Both refuse a text at the first byte
-//! at which it stops being the front of a token. [`read_view`] judges a token as it comes from a file: its limits, its
-//! blanks and its form. [`print`] writes parts as the text that [`parse`] reads, [`hashed_text`] as much of it as a key
-//! binding token hashes, and [`is_longer_than`] says without it how long it is. [`read_jwt`] and [`print_jwt`] are for
-//! a JWT that stands alone.
+//! [`View::scan`] reads a text once and borrows its parts; [`parse`] copies them.
+//! Both refuse a text at the first byte at which it stops being the front of a token.
+//! [`read_view`] judges a token as it comes from a file: its limits, its blanks and
+//! its form. [`print`] writes parts as the text that [`parse`] reads, [`hashed_text`]
+//! as much of it as a key binding token hashes, and [`is_longer_than`] says without
+//! it how long it is. [`read_jwt`] and [`print_jwt`] are for a JWT that stands alone.
 //!
-//! A [`Condition`] is what a token has to meet, a [`Refusal`] whatever is refused, and [`refused_line`] the line that
-//! tells of it.
+//! A [`Condition`] is what a token has to meet, a [`Refusal`] whatever is refused, and
+//! [`refused_line`] the line that tells of it.
 #![tactic(auto)]
 
 mod blanks;

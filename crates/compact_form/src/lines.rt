@@ -7,8 +7,8 @@ use crate::{Fault, JsonPlace, Place, Refusal};
 use sd_outside::{NoMemory, TextBox};
 use std::alloc::Global;
 
-/// The line that tells of a refusal, without its line end: `refused`, its number, its name and, where there is one, its
-/// place.
+/// The line that tells of a refusal, without its line end: `refused`, its
+/// number, its name and, where there is one, its place.
 pub fn refused_line(
     alloc: Global,
     refusal: Refusal,

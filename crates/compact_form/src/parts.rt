@@ -25,7 +25,8 @@ impl JwtParts {
     }
 }
 
-/// The parts of an SD-JWT: the issuer's JWT, the disclosures, and the key binding token where there is one.
+/// The parts of an SD-JWT: the issuer's JWT, the disclosures, and the key
+/// binding token where there is one.
 #[derive(Debug, Drop)]
 pub struct Parts {
     pub signed: JwtParts,

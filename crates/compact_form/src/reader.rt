@@ -11,7 +11,8 @@ use crate::JwtView;
 use crate::field::Field;
 use b64url_text::word_len;
 
-/// Where a text is refused: the length of its longest front that begins some compact text, in bytes.
+/// Where a text is refused: the length of its longest front that begins some
+/// compact text, in bytes.
 #[derive(Clone, Copy, Debug, PartialEq, Eq)]
 pub struct At(pub usize);
 
@@ -43,7 +44,9 @@ impl<'a> Reader<'a> {
         requires unended { may_end (field, false) ≡ true → self.old.at < length self.old.text.now }
         ensures same { self.new.text ≡ self.old.text }
         ensures word { IfOk result (λ word. IsWord word.now) }
-        ensures grows { IfOk result (λ word. take self.new.at self.new.text.now ≡ take self.old.at self.new.text.now ++ word.now) }
+        ensures grows { IfOk result
+            (λ word. take self.new.at self.new.text.now
+            ≡ take self.old.at self.new.text.now ++ word.now) }
         ensures ends { OnOk result (EndsWord self.new.text.now self.new.at field) }
         ensures err { IfErr result (λ at. IsMisformedAt self.new.text.now at.0) }
     {
@@ -61,7 +64,8 @@ impl<'a> Reader<'a> {
         requires ends { EndsWord self.old.text.now self.old.at field }
         requires unended { may_end (field, true) ≡ false }
         ensures same { self.new.text ≡ self.old.text }
-        ensures opens { IfOk result (λ next. OpensField self.new.text.now self.old.at self.new.at field next) }
+        ensures opens { IfOk result
+            (λ next. OpensField self.new.text.now self.old.at self.new.at field next) }
         ensures err { IfErr result (λ at. IsMisformedAt self.new.text.now at.0) }
     {
         if self.at == self.text.len() {
@@ -101,7 +105,8 @@ impl<'a> Reader<'a> {
         requires word { IsWord protected.now }
         requires stands { BringsTo self.old.text.now self.old.at (BindingPayload, false) }
         ensures same { self.new.text ≡ self.old.text }
-        ensures ok { IfOk result (λ jwt. Bound self.new.text.now self.old.at protected.now (jwt_of jwt)) }
+        ensures ok { IfOk result
+            (λ jwt. Bound self.new.text.now self.old.at protected.now (jwt_of jwt)) }
         ensures err { IfErr result (λ at. IsMisformedAt self.new.text.now at.0) }
     {
         let payload = self.word(Field::BindingPayload)?;

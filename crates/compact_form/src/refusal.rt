@@ -2,8 +2,8 @@ ghost use Rattle.std.specs.Prelude.{◌≡◌};
 
 use crate::Condition;
 
-/// Why something is refused, with the number and the name that its line tells. A number that was printed once never
-/// gets another meaning.
+/// Why something is refused, with the number and the name that its line tells. A number that was
+/// printed once never gets another meaning.
 #[derive(Clone, Copy, Debug, PartialEq, Eq)]
 pub enum Refusal {
     /// A token fails this condition: 1 to 38.
@@ -50,7 +50,8 @@ pub enum Refusal {
     WrittenFormDiffers,
     /// 83: the disclosures of an audited token do not open it to its order's payload.
     PayloadDiffers,
-    /// 84: the digests of an audited token are not those of its disclosures and of its order's decoys.
+    /// 84: the digests of an audited token are not those of its disclosures and
+    /// of its order's decoys.
     DigestsDiffer,
     /// 85: decoys of an audited token do not stand where its order puts them.
     DecoysDiffer,

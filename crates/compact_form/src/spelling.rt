@@ -20,7 +20,8 @@ fn push_jwt(text: &mut String, jwt: &JwtParts) -> Result<(), NoMemory>
 }
 
 fn push_disclosures(text: &mut String, disclosures: &TextList) -> Result<(), NoMemory>
-    ensures { OnOk result (string_bytes text.new ≡ string_bytes text.old ++ spelled disclosures.now) }
+    ensures { OnOk result
+        (string_bytes text.new ≡ string_bytes text.old ++ spelled disclosures.now) }
 {
     for disclosure in disclosures.elements() {
         text.push_str(disclosure.as_str())?;
@@ -29,7 +30,8 @@ fn push_disclosures(text: &mut String, disclosures: &TextList) -> Result<(), NoM
     Ok(())
 }
 
-// Room for the compact text of the parts and the end of a line, where it is no longer than that of a token may be.
+// Room for the compact text of the parts and the end of a line, where it is no
+// longer than that of a token may be.
 fn room_for(alloc: Global, parts: &Parts) -> Result<String, NoMemory>
     ensures { IfOk result (λ text. string_bytes text ≡ []) }
 {
@@ -50,7 +52,8 @@ fn front(alloc: Global, parts: &Parts) -> Result<String, NoMemory>
     Ok(text)
 }
 
-/// The text of a JWT that stands alone: the one that [`read_jwt`](crate::read_jwt) reads as these texts.
+/// The text of a JWT that stands alone: the one that
+/// [`read_jwt`](crate::read_jwt) reads as these texts.
 pub fn print_jwt(alloc: Global, jwt: &JwtParts) -> Result<TextBox, NoMemory>
     requires words { HasWords jwt.now }
     ensures { IfOk result (IsJwt jwt.now) }
@@ -72,8 +75,8 @@ pub fn print(alloc: Global, parts: &Parts) -> Result<TextBox, NoMemory>
     Ok(TextBox::from_string(text))
 }
 
-/// The compact text of the parts up to and with its last tilde, which a key binding token hashes (RFC 9901
-/// section 4.3.1).
+/// The compact text of the parts up to and with its last tilde, which a key
+/// binding token hashes (RFC 9901 section 4.3.1).
 pub fn hashed_text(alloc: Global, parts: &Parts) -> Result<TextBox, NoMemory>
     requires words { AreWords parts.now }
     ensures text { IfOk result (λ text. text ≡ hashed parts.now) }

@@ -82,7 +82,8 @@ impl<'a> Model for Pieces<'a> {
     ghost invariant = { λ p. IsSpelled p.rest.now };
 }
 
-// What is read of a text: the JWT at its front, where the disclosures begin and end, and their number.
+// What is read of a text: the JWT at its front, where the disclosures begin and
+// end, and their number.
 #[derive(Clone, Copy, Drop)]
 struct Front<'a> {
     signed: JwtView<'a>,
@@ -92,7 +93,8 @@ struct Front<'a> {
 }
 
 impl<'a> Front<'a> {
-    // The view of a text that ends with the disclosures, or with this key binding token behind them.
+    // The view of a text that ends with the disclosures, or with this key
+    // binding token behind them.
     fn view(self, text: &'a [u8], binding: Option<JwtView<'a>>) -> View<'a>
         requires gathered { Gathered text.now self.from self.end self.count (jwt_of self.signed) }
         requires words { IfSome (option_map jwt_of binding) HasWords }
@@ -173,7 +175,8 @@ impl<'a> View<'a> {
         self.binding
     }
 
-    /// The text up to and with its last tilde, which a key binding token hashes (RFC 9901 section 4.3.1).
+    /// The text up to and with its last tilde, which a key binding token hashes
+    /// (RFC 9901 section 4.3.1).
     pub fn hashed(&self) -> &'a str
         ensures { result.now ≡ hashed_of self.now }
     {

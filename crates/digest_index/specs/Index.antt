@@ -1,4 +1,5 @@
--- Not needed to believe the program's promises: distinct texts in the order in which they were first seen, and a count of look-ups.
+-- Not needed to believe the program's promises: distinct texts in the order in
+-- which they were first seen, and a count of look-ups.
 use Rattle.std.specs.Prelude.{ℕ, suc, ◌+◌, ◌-◌, ◌^◌, min, List, [], ◌∷◌, bytes_eq, Option, None, Some, option_map, if◌then◌else◌}
 
 abbrev pub Text : Type 0

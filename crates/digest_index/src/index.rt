@@ -9,10 +9,11 @@ use sd_outside::NoMemory;
 use std::alloc::Global;
 use std::marker::Model;
 
-/// Distinct texts, borrowed, in the order in which they were first seen. Contracts see the list of them.
+/// Distinct texts, borrowed, in the order in which they were first seen.
+/// Contracts see the list of them.
 ///
-/// A position never changes, and a look-up costs one hash of the text, which begins with a seed. Someone who picks the
-/// texts and knows the seed can pick ones that collide.
+/// A position never changes, and a look-up costs one hash of the text, which begins with a seed.
+/// Someone who picks the texts and knows the seed can pick ones that collide.
 #[derive(Debug, Drop)]
 pub struct DigestIndex<'a> {
     texts: IndexSet<&'a str, Seeded>,
@@ -41,7 +42,8 @@ impl<'a> DigestIndex<'a> {
 
     /// No texts, with memory for so many, whose hashes are to begin with this seed.
     ///
-    /// No contract speaks of the seed: it changes no answer, but which texts are slow to look up together.
+    /// No contract speaks of the seed: it changes no answer, but which texts
+    /// are slow to look up together.
     pub fn with_seed(alloc: Global, count: usize, seed: u64) -> Result<DigestIndex<'a>, NoMemory>
         ensures { IfOk result (λ index. index ≡ []) }
     {

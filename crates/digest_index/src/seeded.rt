@@ -1,7 +1,7 @@
 use std::hash::{BuildHasher, DefaultHasher, Hasher};
 
-/// Makes hashers that stand behind a seed. They are SipHash-1-3, so that which keys collide can't be known without the
-/// seed.
+/// Makes hashers that stand behind a seed. They are SipHash-1-3, so that which
+/// keys collide can't be known without the seed.
 #[derive(Clone, Copy, Debug)]
 pub struct Seeded {
     start: DefaultHasher,
@@ -26,8 +26,9 @@ impl BuildHasher for Seeded {
     }
 }
 
-/// A seed for the digests of a signed token, which is drawn from its signature once this is checked. Who wrote the
-/// token can't know it while choosing the digests, since the signature is over them.
+/// A seed for the digests of a signed token, which is drawn from its signature
+/// once this is checked. Who wrote the token can't know it while choosing the
+/// digests, since the signature is over them.
 pub fn seed_of(signature: &str) -> u64 {
     let mut hasher = DefaultHasher::new();
     hasher.write(signature.as_bytes());

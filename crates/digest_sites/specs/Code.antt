@@ -17,5 +17,7 @@ tree_code = code_by Elements elements_code (λ t. element t no_elements) first_t
 abbrev pub given_code : Coded (List Given)
 given_code =
     coded_list
-    (code_by (Text × (Option Text × Tree)) (coded× text_code (coded× (coded_option text_code) tree_code)) (λ g. (g.digest, (g.name, g.value)))
+    (code_by (Text × (Option Text × Tree))
+    (coded× text_code (coded× (coded_option text_code) tree_code))
+    (λ g. (g.digest, (g.name, g.value)))
     (λ p. record { digest = p.0; name = p.1.0; value = p.1.1 }) (λ _. refl))

@@ -22,16 +22,20 @@ text_list _ = None
 -- the texts of the member `_sd`, none where it is no list of texts
 abbrev pub sd_texts : Members → List Text
 sd_texts no_members = []
-sd_texts (member name t ms) = if bytes_eq name sd_name then unwrap_or (text_list t) [] else sd_texts ms
+sd_texts (member name t ms) =
+    if bytes_eq name sd_name then unwrap_or (text_list t) [] else sd_texts ms
 
--- the digest of an element that stands for a hidden one: an object whose only member is `...`, a text
+-- the digest of an element that stands for a hidden one: an object whose only
+-- member is `...`, a text
 abbrev pub element_digest : Tree → Option Text
-element_digest (object (member name t no_members)) = if bytes_eq name dots_name then text_of t else None
+element_digest (object (member name t no_members)) =
+    if bytes_eq name dots_name then text_of t else None
 element_digest _ = None
 
 -- a member is `_sd` and no list of texts, or is `...`
 abbrev pub is_ill_named : Text → Tree → Bool
-is_ill_named name t = (bytes_eq name sd_name && not (is_some (text_list t))) || bytes_eq name dots_name
+is_ill_named name t =
+    (bytes_eq name sd_name && not (is_some (text_list t))) || bytes_eq name dots_name
 
 -- a reserved name is used otherwise: by a member of an object that is no element with a digest
 abbrev mutual
@@ -42,7 +46,8 @@ abbrev mutual
 
   pub elements_misuse : Elements → Bool
   elements_misuse no_elements = false
-  elements_misuse (element t es) = (not (is_some (element_digest t)) && misuses t) || elements_misuse es
+  elements_misuse (element t es) =
+      (not (is_some (element_digest t)) && misuses t) || elements_misuse es
 
   pub members_misuse : Members → Bool
   members_misuse no_members = false

@@ -5,13 +5,14 @@ use Rattle.digest_sites.specs.Reserved.{sd_name, sd_texts, element_digest}
 use Rattle.digest_sites.specs.declared.site.SiteKind.{SiteKind}
 use Rattle.digest_sites.specs.declared.site.SiteKind.TheVariants.{Member, Element}
 
--- one step into a tree: to the member with this name, or to the element at this position, counted from 0
+-- one step into a tree: to the member with this name, or to the element at this
+-- position, counted from 0
 pub data Step : Type 0 where
   to_member : Text → Step
   to_element : ℕ → Step
 
--- a digest in a tree: for a member site `at` leads to the object, and `beside` has the names of the object's members;
--- for an element site `at` leads to the element
+-- a digest in a tree: for a member site `at` leads to the object, and `beside` has the names of the
+-- object's members; for an element site `at` leads to the element
 pub record Site : Type 0 where
   pub at : List Step
   pub kind : SiteKind
@@ -43,11 +44,14 @@ abbrev mutual
   -- the first element has the position i
   pub element_sites : ℕ → Elements → List Site
   element_sites i no_elements = []
-  element_sites i (element t es) = sites_on (to_element i) (element_digest t) (sites t) ++ element_sites (suc i) es
+  element_sites i (element t es) =
+      sites_on (to_element i) (element_digest t) (sites t) ++ element_sites (suc i) es
 
   pub member_sites : Members → List Site
   member_sites no_members = []
-  member_sites (member name t ms) = (if bytes_eq name sd_name then [] else map (under (to_member name)) (sites t)) ++ member_sites ms
+  member_sites (member name t ms) =
+      (if bytes_eq name sd_name then [] else map (under (to_member name)) (sites t))
+      ++ member_sites ms
 
 -- a step as one of a JSON Pointer (RFC 6901 section 4)
 abbrev pub step_text : Step → Text

@@ -25,7 +25,8 @@ abbrev mutual
   pub elements_sites : List Text → ℕ → Elements → List Site
   elements_sites at i no_elements = []
   elements_sites at i (element t es) =
-      element_sites_on (at ++ decimal i ∷ []) (element_digest t) (sites_at (at ++ decimal i ∷ []) t) ++ elements_sites at (suc i) es
+      element_sites_on (at ++ decimal i ∷ []) (element_digest t) (sites_at (at ++ decimal i ∷ []) t)
+      ++ elements_sites at (suc i) es
 
   pub members_sites : List Text → Members → List Site
   members_sites at no_members = []

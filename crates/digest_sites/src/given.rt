@@ -84,7 +84,9 @@ impl GivenList {
 
     /// Takes the name and the value of the disclosure at a position, and leaves no name and null.
     pub fn take(&mut self, i: usize) -> Option<(Option<TextBox>, Tree)>
-        ensures taken { MatchOption result (length self.old ≤ i) (λ one. (x : Seen) × StandsAt self.old i x × (one.0 ≡ x.name) × (tree_of one.1 ≡ x.value)) }
+        ensures taken { MatchOption result (length self.old ≤ i)
+            (λ one.
+            (x : Seen) × StandsAt self.old i x × (one.0 ≡ x.name) × (tree_of one.1 ≡ x.value)) }
         ensures left { self.new ≡ emptied self.old i }
     {
         if i < self.items.len() {

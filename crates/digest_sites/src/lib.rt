@@ -1,6 +1,7 @@
 //! The digests that are embedded in a JSON value, RFC 9901 section 4.2.4.
 //!
-//! [`sites`] answers where they stand, and [`is_misused`] whether a reserved name is used otherwise.
+//! [`sites`] answers where they stand, and [`is_misused`] whether a reserved
+//! name is used otherwise.
 #![tactic(auto)]
 
 mod given;

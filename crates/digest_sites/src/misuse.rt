@@ -6,8 +6,8 @@ ghost use Rattle.digest_sites.specs.Reserved.{misuses, elements_misuse, members_
 use crate::reserved::{element_digest, is_ill_named};
 use claim_tree::{Tree, TreeList, TreeMap};
 
-/// Whether an object in the tree has a member `_sd` that is no list of texts, or a member `...` and is no element
-/// with a digest. It takes no memory.
+/// Whether an object in the tree has a member `_sd` that is no list of texts, or a member `...` and
+/// is no element with a digest. It takes no memory.
 #[cycle(misuse)]
 pub fn is_misused(tree: &Tree) -> bool
     ensures { result ≡ misuses (tree_of tree.now) }

@@ -50,12 +50,14 @@ fn is_text_list(tree: &Tree) -> bool
     }
 }
 
-/// The list of the digests of an object's own hidden members, `None` where the object has no member `_sd` or that is
-/// no list of texts. It takes no memory.
+/// The list of the digests of an object's own hidden members, `None` where the object has no member
+/// `_sd` or that is no list of texts. It takes no memory.
 #[tactic(auto, unfolding(crate::specs::Reserved::sd_name), using(crate::proofs::Found::sd_found))]
 pub fn own_digests(members: &TreeMap) -> Option<&TreeList>
-    ensures texts { MatchOption result (sd_texts members.now ≡ []) (λ list. texts_of list.now ≡ Some (sd_texts members.now)) }
-    ensures exactly { is_some result ≡ is_some (option_and_then text_list (member_named members.now sd_name)) }
+    ensures texts { MatchOption result (sd_texts members.now ≡ [])
+        (λ list. texts_of list.now ≡ Some (sd_texts members.now)) }
+    ensures exactly { is_some result
+        ≡ is_some (option_and_then text_list (member_named members.now sd_name)) }
 {
     let Tree::List(list) = members.get(SD)? else {
         return None;
@@ -84,8 +86,8 @@ pub(crate) fn is_ill_named(name: &TextBox, tree: &Tree) -> bool
     is_sd(name) && !is_text_list(tree) || is_dots(name)
 }
 
-/// The digest of an element that stands for a hidden one, RFC 9901 section 4.2.4.2, `None` for any other element. It
-/// takes no memory.
+/// The digest of an element that stands for a hidden one, RFC 9901 section
+/// 4.2.4.2, `None` for any other element. It takes no memory.
 #[tactic(auto, unfolding(crate::specs::Reserved::dots_name))]
 pub fn element_digest(tree: &Tree) -> Option<&TextBox>
     ensures { option_map (λ t. t.now) result ≡ digest_in (tree_of tree.now) }

@@ -13,7 +13,8 @@ pub enum SiteKind {
 /// A digest in a tree.
 #[derive(Debug, Drop)]
 pub struct Site {
-    /// For `Member` the place of the object, for `Element` that of the element that stands for the hidden one.
+    /// For `Member` the place of the object, for `Element` that of the element
+    /// that stands for the hidden one.
     pub at: Path,
     pub kind: SiteKind,
     pub digest: TextBox,

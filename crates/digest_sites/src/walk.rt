@@ -34,8 +34,9 @@ impl From<NoMemory> for SiteError {
     }
 }
 
-/// The sites of a tree: of an object first those of its `_sd`, then those inside its other members in ascending
-/// order; of an array those of its elements in order, where an element with a digest is one site.
+/// The sites of a tree: of an object first those of its `_sd`, then those
+/// inside its other members in ascending order; of an array those of its
+/// elements in order, where an element with a digest is one site.
 #[tactic(auto, using(crate::proofs::Moved::listed_sites))]
 pub fn sites(alloc: Global, tree: &Tree) -> Result<SiteList, SiteError>
     ensures ok { IfOk result (λ list. list ≡ map listed (sites_of (tree_of tree.now))) }
@@ -66,7 +67,8 @@ impl Walk {
     // Adds the sites of the tree to which the walk has come.
     #[cycle(walk)]
     fn visit(&mut self, tree: &Tree) -> Result<(), NoMemory>
-        ensures found { OnOk result (self.new.found ≡ self.old.found ++ sites_at self.old.at (tree_of tree.now)) }
+        ensures found { OnOk result
+            (self.new.found ≡ self.old.found ++ sites_at self.old.at (tree_of tree.now)) }
         ensures at { OnOk result (self.new.at ≡ self.old.at) }
     {
         match tree {
@@ -82,7 +84,8 @@ impl Walk {
     #[cycle(walk)]
     #[tactic(auto, using(claim_tree::proofs::Walks::into_element))]
     fn visit_elements(&mut self, trees: &TreeList) -> Result<(), NoMemory>
-        ensures found { OnOk result (self.new.found ≡ self.old.found ++ elements_sites self.old.at 0 trees.now) }
+        ensures found { OnOk result
+            (self.new.found ≡ self.old.found ++ elements_sites self.old.at 0 trees.now) }
         ensures at { OnOk result (self.new.at ≡ self.old.at) }
     {
         for (i, tree) in trees.trees().iter().enumerate() {
@@ -95,7 +98,12 @@ impl Walk {
     // The element on a step.
     #[cycle(walk)]
     fn visit_element(&mut self, step: &str, tree: &Tree) -> Result<(), NoMemory>
-        ensures found { OnOk result (self.new.found ≡ self.old.found ++ element_sites_on (self.old.at ++ step.now ∷ []) (digest_in (tree_of tree.now)) (sites_at (self.old.at ++ step.now ∷ []) (tree_of tree.now))) }
+        ensures found { OnOk result
+            (self.new.found
+            ≡ self.old.found
+            ++ element_sites_on (self.old.at ++ step.now ∷ [])
+            (digest_in (tree_of tree.now))
+            (sites_at (self.old.at ++ step.now ∷ []) (tree_of tree.now))) }
         ensures at { OnOk result (self.new.at ≡ self.old.at) }
     {
         self.at.push(step)?;
@@ -110,7 +118,8 @@ impl Walk {
     #[cycle(walk)]
     #[tactic(auto, using(claim_tree::proofs::Walks::into_member))]
     fn visit_members(&mut self, trees: &TreeMap) -> Result<(), NoMemory>
-        ensures found { OnOk result (self.new.found ≡ self.old.found ++ members_sites self.old.at trees.now) }
+        ensures found { OnOk result
+            (self.new.found ≡ self.old.found ++ members_sites self.old.at trees.now) }
         ensures at { OnOk result (self.new.at ≡ self.old.at) }
     {
         for (name, tree) in trees.members() {
@@ -123,7 +132,9 @@ impl Walk {
 
     #[cycle(walk)]
     fn visit_member(&mut self, name: &str, tree: &Tree) -> Result<(), NoMemory>
-        ensures found { OnOk result (self.new.found ≡ self.old.found ++ sites_at (self.old.at ++ name.now ∷ []) (tree_of tree.now)) }
+        ensures found { OnOk result
+            (self.new.found
+            ≡ self.old.found ++ sites_at (self.old.at ++ name.now ∷ []) (tree_of tree.now)) }
         ensures at { OnOk result (self.new.at ≡ self.old.at) }
     {
         self.at.push(name)?;
@@ -134,7 +145,8 @@ impl Walk {
 
     // Adds the sites of the digests of an object's own hidden members.
     fn add_own_sites(&mut self, trees: &TreeMap) -> Result<(), NoMemory>
-        ensures found { OnOk result (self.new.found ≡ self.old.found ++ own_sites_at self.old.at trees.now) }
+        ensures found { OnOk result
+            (self.new.found ≡ self.old.found ++ own_sites_at self.old.at trees.now) }
         ensures at { OnOk result (self.new.at ≡ self.old.at) }
     {
         match own_digests(trees) {
@@ -145,7 +157,10 @@ impl Walk {
 
     fn add_member_sites(&mut self, digests: &TreeList) -> Result<(), NoMemory>
         requires { IsSome (texts_of digests.now) }
-        ensures found { OnOk result (self.new.found ≡ self.old.found ++ map (site self.old.at Member) (unwrap_or (texts_of digests.now) [])) }
+        ensures found { OnOk result
+            (self.new.found
+            ≡ self.old.found
+            ++ map (site self.old.at Member) (unwrap_or (texts_of digests.now) [])) }
         ensures at { OnOk result (self.new.at ≡ self.old.at) }
     {
         for tree in digests.trees() {
@@ -158,7 +173,8 @@ impl Walk {
 
     // Adds a site at the place to which the walk has come.
     fn add_site(&mut self, kind: SiteKind, digest: &TextBox) -> Result<(), NoMemory>
-        ensures found { OnOk result (self.new.found ≡ self.old.found ++ site self.old.at kind digest.now ∷ []) }
+        ensures found { OnOk result
+            (self.new.found ≡ self.old.found ++ site self.old.at kind digest.now ∷ []) }
         ensures at { OnOk result (self.new.at ≡ self.old.at) }
     {
         let at = self.at.copy(self.alloc)?;

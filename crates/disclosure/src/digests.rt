@@ -9,7 +9,8 @@ use sd_outside::{NoMemory, TextBox};
 use sha2::{Digest, Sha256, Sha384, Sha512};
 use std::alloc::Global;
 
-/// A hash algorithm, by its name in the registry of named hashes (RFC 6920, RFC 9901 section 4.1.1).
+/// A hash algorithm, by its name in the registry of named hashes (RFC 6920, RFC
+/// 9901 section 4.1.1).
 #[derive(Clone, Copy, Debug, PartialEq, Eq)]
 pub enum HashAlg {
     /// `sha-256`.
@@ -54,8 +55,8 @@ fn hash_of_name(name: &Tree) -> Option<HashAlg>
     hash_named(name.as_text()?.as_str())
 }
 
-/// The algorithm of a payload's digests, RFC 9901 section 4.1.1: that of its `_sd_alg`, or SHA-256 where it has none.
-/// `None` where `_sd_alg` names no algorithm that is known, or is no text.
+/// The algorithm of a payload's digests, RFC 9901 section 4.1.1: that of its `_sd_alg`, or SHA-256
+/// where it has none. `None` where `_sd_alg` names no algorithm that is known, or is no text.
 pub fn payload_hash(payload: &Tree) -> Option<HashAlg>
     ensures { result ≡ payload_hash_by (tree_of payload.now) }
 {
@@ -65,7 +66,8 @@ pub fn payload_hash(payload: &Tree) -> Option<HashAlg>
     }
 }
 
-/// The digest of a disclosure's text, or of any other: the base64url text of the hash of its bytes, section 4.2.3.
+/// The digest of a disclosure's text, or of any other: the base64url text of
+/// the hash of its bytes, section 4.2.3.
 pub fn digest(alloc: Global, alg: HashAlg, text: &str) -> Result<TextBox, NoMemory>
     ensures { IfOk result (λ digest. digest ≡ digest_of alg text.now) }
 {

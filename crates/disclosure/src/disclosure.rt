@@ -54,10 +54,11 @@ pub struct Disclosed {
     pub value: Tree,
 }
 
-/// What a disclosure holds whose JSON is this tree (RFC 9901 section 4.2): the salt, the name and the value, which are
-/// moved out of it.
+/// What a disclosure holds whose JSON is this tree (RFC 9901 section 4.2): the salt, the name and
+/// the value, which are moved out of it.
 pub fn parts_of(tree: Tree) -> Option<DisclosureParts>
-    ensures parts { IfSome result (λ d. tree_of tree ≡ array_of (tree_of d.salt) d.name (tree_of d.value)) }
+    ensures parts { IfSome result
+        (λ d. tree_of tree ≡ array_of (tree_of d.salt) d.name (tree_of d.value)) }
     ensures other { IfNone result (IsNoArray (tree_of tree)) }
 {
     let Tree::List(list) = tree else {
@@ -85,8 +86,11 @@ pub fn parts_of(tree: Tree) -> Option<DisclosureParts>
 
 // What a disclosure gives whose JSON is the list of a salt and these.
 fn given_by(tail: ListTail) -> Option<Disclosed>
-    ensures given { IfSome result (λ d. (salt : TreeSpec) → array (element salt (tail_elements tail)) ≡ array_of salt d.name (tree_of d.value)) }
-    ensures other { IfNone result ((salt : TreeSpec) → IsNoArray (array (element salt (tail_elements tail)))) }
+    ensures given { IfSome result
+        (λ d. (salt : TreeSpec)
+        → array (element salt (tail_elements tail)) ≡ array_of salt d.name (tree_of d.value)) }
+    ensures other { IfNone result
+        ((salt : TreeSpec) → IsNoArray (array (element salt (tail_elements tail)))) }
 {
     let ListTail { second, third } = tail;
     let Some(value) = third else {
@@ -104,12 +108,16 @@ fn given_by(tail: ListTail) -> Option<Disclosed>
     }
 }
 
-/// What a disclosure gives whose JSON reads to this, which is moved out of it. None where it is no disclosure.
+/// What a disclosure gives whose JSON reads to this, which is moved out of it.
+/// None where it is no disclosure.
 pub fn disclosed_by(found: TailOrTree) -> Option<Disclosed>
     requires depth { depth (kept_tree found) ≤ json_depth_max }
-    ensures given { IfSome result (λ d. (json : Text) → ReadsTail json found → (salt : TreeSpec) × Reads json (array_of salt d.name (tree_of d.value))) }
+    ensures given { IfSome result
+        (λ d. (json : Text) → ReadsTail json found
+        → (salt : TreeSpec) × Reads json (array_of salt d.name (tree_of d.value))) }
     ensures depth { IfSome result (λ d. depth (tree_of d.value) ≤ 126) }
-    ensures other { IfNone result ((json : Text) → ReadsTail json found → (t : TreeSpec) × Reads json t × IsNoArray t) }
+    ensures other { IfNone result
+        ((json : Text) → ReadsTail json found → (t : TreeSpec) × Reads json t × IsNoArray t) }
 {
     match found {
         TailOrTree::Tail(tail) => given_by(tail),
@@ -129,7 +137,8 @@ pub struct DisclosureReader {
     room: Vec<u8>,
 }
 
-// Decodes a text to the front of the room, which grows as it has to. The answer is how many bytes they are.
+// Decodes a text to the front of the room, which grows as it has to. The answer
+// is how many bytes they are.
 fn decode_to(room: &mut Vec<u8>, text: &str) -> Result<usize, DisclosureError>
     ensures within { IfOk result (λ count. count ≤ length room.new.items) }
     ensures ok { IfOk result (λ count. Decodes text.now (take count room.new.items)) }
@@ -151,14 +160,15 @@ impl DisclosureReader {
         }
     }
 
-    /// Reads what a disclosure gives. That is faster than to read all that it holds: no text is copied but those that it
-    /// gives.
+    /// Reads what a disclosure gives. That is faster than to read all that it
+    /// holds: no text is copied but those that it gives.
     pub fn read_disclosed(
         &mut self,
         alloc: Global,
         text: &str,
     ) -> Result<Disclosed, DisclosureError>
-        ensures ok { IfOk result (λ d. (salt : TreeSpec) × IsDisclosure text.now salt d.name (tree_of d.value)) }
+        ensures ok { IfOk result
+            (λ d. (salt : TreeSpec) × IsDisclosure text.now salt d.name (tree_of d.value)) }
         ensures ordered { IfOk result (λ d. IsOrdered (tree_of d.value)) }
         ensures depth { IfOk result (λ d. depth (tree_of d.value) ≤ 126) }
         ensures refused { IfErr result (IsDisclosureRefused text.now) }
@@ -169,11 +179,12 @@ impl DisclosureReader {
     }
 }
 
-/// Reads a disclosure. Whole numbers alone are taken, as everywhere. A [`DisclosureReader`] reads what many of them give
-/// in less time.
+/// Reads a disclosure. Whole numbers alone are taken, as everywhere. A [`DisclosureReader`] reads
+/// what many of them give in less time.
 pub fn read_disclosure(alloc: Global, text: &str) -> Result<Disclosure, DisclosureError>
     ensures text { IfOk result (λ d. d.text ≡ text.now) }
-    ensures ok { IfOk result (λ d. IsDisclosure text.now (tree_of d.salt) d.name (tree_of d.value)) }
+    ensures ok { IfOk result
+        (λ d. IsDisclosure text.now (tree_of d.salt) d.name (tree_of d.value)) }
     ensures ordered { IfOk result (λ d. IsOrdered (tree_of d.value)) }
     ensures depth { IfOk result (λ d. depth (tree_of d.value) ≤ 126) }
 
@@ -203,8 +214,13 @@ pub fn make_text(
     value: &Tree,
 ) -> Result<TextBox, NoMemory>
     requires depth { depth (tree_of value.now) ≤ 126 }
-    ensures text { IfOk result (λ text. text ≡ disclosure_text (leaf (text_leaf salt.now)) (option_map (λ n. n.now) name.entry) (tree_of value.now)) }
-    ensures back { IfOk result (λ text. IsDisclosure text (leaf (text_leaf salt.now)) (option_map (λ n. n.now) name.entry) (tree_of value.now)) }
+    ensures text { IfOk result
+        (λ text. text
+        ≡ disclosure_text (leaf (text_leaf salt.now)) (option_map (λ n. n.now) name.entry)
+        (tree_of value.now)) }
+    ensures back { IfOk result
+        (λ text. IsDisclosure text (leaf (text_leaf salt.now)) (option_map (λ n. n.now) name.entry)
+        (tree_of value.now)) }
 {
     let json = write_list(alloc, salt, name, value)?;
     encode(alloc, json.as_str().as_bytes())
@@ -230,8 +246,10 @@ pub fn make(
     ensures salt { IfOk result (λ d. tree_of d.salt ≡ leaf (text_leaf salt.now)) }
     ensures name { IfOk result (λ d. d.name ≡ option_map (λ n. n.now) name.entry) }
     ensures value { IfOk result (λ d. tree_of d.value ≡ tree_of value.now) }
-    ensures text { IfOk result (λ d. d.text ≡ disclosure_text (tree_of d.salt) d.name (tree_of d.value)) }
-    ensures back { IfOk result (λ d. IsDisclosure d.text (tree_of d.salt) d.name (tree_of d.value)) }
+    ensures text { IfOk result
+        (λ d. d.text ≡ disclosure_text (tree_of d.salt) d.name (tree_of d.value)) }
+    ensures back { IfOk result
+        (λ d. IsDisclosure d.text (tree_of d.salt) d.name (tree_of d.value)) }
 {
     Ok(Disclosure {
         text: make_text(alloc, salt, name, value)?,

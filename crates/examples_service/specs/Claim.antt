@@ -4,9 +4,10 @@ use Rattle.claim_tree.specs.Tree.{Text, Tree, get}
 use Rattle.verifier_core.specs.Verdicts.{IsAcceptedAs}
 use Rattle.verifier_core.specs.declared.policy.Policy.{Policy}
 
--- the text is accepted under the policy at the moment, and the claim is the member of its processed payload under the
--- name, or none
-pub record IsClaim (text : Text) (policy : Policy) (now : ℕ) (name : Text) (claim : Option Tree) : Type 0 where
+-- the text is accepted under the policy at the moment, and the claim is the
+-- member of its processed payload under the name, or none
+pub record IsClaim (text : Text) (policy : Policy) (now : ℕ) (name : Text) (claim : Option Tree)
+    : Type 0 where
   pub payload : Tree
   pub accepted : IsAcceptedAs text policy now payload
   pub claim_is : claim ≡ get payload name

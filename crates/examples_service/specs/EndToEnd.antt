@@ -11,12 +11,14 @@ use Rattle.holder_core.specs.declared.ask.Ask.{Ask}
 use Rattle.issuer_core.specs.Order.{Order}
 use Rattle.sdjwt_cli.specs.Issuing.{IsIssuedBy}
 
-pub record IsIssuedText (seed : List ℕ) (order : Order) (key : AlgKey) (text : List ℕ) : Type 0 where
+pub record IsIssuedText (seed : List ℕ) (order : Order) (key : AlgKey) (text : List ℕ)
+    : Type 0 where
   pub parts : Parts
   pub issued : IsIssuedBy seed order key parts
   pub text_is : text ≡ compact parts
 
-pub record IsPresentedText {F : Type 0} (answers : RuleAnswers F) (rule : F) (token : List ℕ) (ask : Ask) (good : Meaning) (now : ℕ) (text : List ℕ) : Type 0 where
+pub record IsPresentedText {F : Type 0} (answers : RuleAnswers F) (rule : F) (token : List ℕ)
+    (ask : Ask) (good : Meaning) (now : ℕ) (text : List ℕ) : Type 0 where
   pub parts : Parts
   pub presented : IsPresented answers rule token (asked_by ask) (codes "HS256") good now parts
   pub text_is : text ≡ compact parts

@@ -12,10 +12,20 @@ use Rattle.issuer_core.specs.Written.{IsIssued, IsLaidOut}
 -- the order that hides these places of a payload by SHA-256, and asks for nothing else
 abbrev pub order_for : Tree → List (List Text) → Order
 order_for payload hide =
-    record { payload = payload; hide = hide; decoys = []; kid = None; typ = None; hash = HashAlg.Sha256 }
+    record {
+      payload =
+          payload;
+      hide = hide;
+      decoys = [];
+      kid = None;
+      typ = None;
+      hash = HashAlg.Sha256;
+    }
 
--- the text is the compact text of parts that are laid out and issued for the order, with signatures of this algorithm
-pub record IsTokenFor (maker : Maker) (o : Order) (alg : Text) (good : Meaning) (text : Text) : Type 0 where
+-- the text is the compact text of parts that are laid out and issued for the
+-- order, with signatures of this algorithm
+pub record IsTokenFor (maker : Maker) (o : Order) (alg : Text) (good : Meaning) (text : Text)
+    : Type 0 where
   pub parts : Parts
   pub issued : IsIssued maker o alg good parts
   pub laid : IsLaidOut maker o alg good parts

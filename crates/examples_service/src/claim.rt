@@ -12,8 +12,9 @@ use digest_index::Steps;
 use std::alloc::Global;
 use verifier_core::{Policy, VerifyError, verify_payload};
 
-/// The claim of this name in the processed payload of a presentation, which is verified under a policy at a moment in
-/// seconds since 1970. None where the presentation is accepted and has no such claim.
+/// The claim of this name in the processed payload of a presentation, which is
+/// verified under a policy at a moment in seconds since 1970. None where the
+/// presentation is accepted and has no such claim.
 pub fn claim_of(
     alloc: Global,
     policy: &Policy,
@@ -23,7 +24,8 @@ pub fn claim_of(
 ) -> Result<Option<Tree>, VerifyError>
     ensures claim { IfOk result (λ claim.
         IsClaim presentation.now policy.now now name.now (option_map tree_of claim)) }
-    ensures refused { IfErr result (λ e. OnFault e (IsLowest (Fails presentation.now policy.now now))) }
+    ensures refused { IfErr result
+        (λ e. OnFault e (IsLowest (Fails presentation.now policy.now now))) }
 {
     let text = presentation.as_bytes();
     let payload = verify_payload(alloc, text, policy, now, &mut Steps::new())?;

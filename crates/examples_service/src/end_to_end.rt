@@ -54,7 +54,8 @@ fn issued(alloc: Global, issuer: Issuer) -> Result<TextBox, IssueError>
     requires depth { depth (tree_of issuer.order.payload) ≤ json_depth_max }
     ensures issued { IfOk result (IsIssuedText issuer.seed (order_of issuer.order) issuer.key) }
     ensures refused { IfErr result
-        (IsNotIssued (maker_of issuer.seed) (order_of issuer.order) (alg_text issuer.key.alg) (IsGood issuer.key)) }
+        (IsNotIssued (maker_of issuer.seed) (order_of issuer.order) (alg_text issuer.key.alg)
+        (IsGood issuer.key)) }
     ensures signed { IfErr result (λ error. error ≢ IssueError.SignFailed) }
 {
     let Issuer {
@@ -78,8 +79,11 @@ fn presented<F: Fn(&Path) -> bool>(
 ) -> Result<TextBox, NoMemory>
     requires callable { F.IsAlwaysCallable holder.now.consent }
     requires unrefused { (error : Unpresented) → error ≢ Memory → error ≢ SignFailed
-        → IsNotPresented F.Fn holder.now.consent token.now (asked_by holder.now.ask) (codes "HS256") (IsGood (hs256_key key)) now error → ⊥ }
-    ensures { IfOk result (IsPresentedText F.Fn holder.now.consent token.now holder.now.ask (IsGood (hs256_key key)) now) }
+        → IsNotPresented F.Fn holder.now.consent token.now (asked_by holder.now.ask) (codes "HS256")
+        (IsGood (hs256_key key)) now error → ⊥ }
+    ensures { IfOk result
+        (IsPresentedText F.Fn holder.now.consent token.now holder.now.ask (IsGood (hs256_key key))
+        now) }
 {
     let steps = &mut Steps::new();
     let Holder { ask, consent } = holder;
@@ -93,7 +97,8 @@ fn presented<F: Fn(&Path) -> bool>(
 // The processed payload of a presentation of which no condition fails.
 fn verified(alloc: Global, presentation: &str, policy: &Policy, now: u64) -> Result<Tree, NoMemory>
     requires passes { (fault : Fault) → IsLowest (Fails presentation.now policy.now now) fault → ⊥ }
-    ensures { IfOk result (λ payload. IsAcceptedAs presentation.now policy.now now (tree_of payload)) }
+    ensures { IfOk result
+        (λ payload. IsAcceptedAs presentation.now policy.now now (tree_of payload)) }
 {
     let text = presentation.as_bytes();
     match verify_payload(alloc, text, policy, now, &mut Steps::new()) {
@@ -103,12 +108,13 @@ fn verified(alloc: Global, presentation: &str, policy: &Policy, now: u64) -> Res
     }
 }
 
-/// Issues a token for an order, presents what is asked of it, and answers the processed payload that a verifier finds.
-/// The moments are in seconds since 1970.
+/// Issues a token for an order, presents what is asked of it, and answers the processed payload
+/// that a verifier finds. The moments are in seconds since 1970.
 ///
-/// The policy suits what is asked (`Suits`). Then the answer is the payload of the order without the hidden places that
-/// lead to none of the wanted ones, and nothing is refused but by the issuer, for a cause that the clauses tell: an
-/// order to which one of the refusals applies has no answer (`issued`).
+/// The policy suits what is asked (`Suits`). Then the answer is the payload of
+/// the order without the hidden places that lead to none of the wanted ones,
+/// and nothing is refused but by the issuer, for a cause that the clauses tell:
+/// an order to which one of the refusals applies has no answer (`issued`).
 pub fn issue_present_verify<F: Fn(&Path) -> bool>(
     alloc: Global,
     issuer: Issuer,
@@ -121,13 +127,17 @@ pub fn issue_present_verify<F: Fn(&Path) -> bool>(
     requires depth { depth (tree_of issuer.order.payload) ≤ json_depth_max }
     requires callable { F.IsAlwaysCallable holder.now.consent }
     requires short { AreShort holder.now.ask.binding }
-    requires suits { Suits F.Fn holder.now.consent (order_of issuer.order) issuer.key holder.now.ask holder_key
-        policy.now presented_at verified_at }
-    ensures shown { IfOk result (λ payload. tree_of payload ≡ claims_for (order_of issuer.order) holder.now.ask.want) }
-    ensures issued { IfOk result (λ _. NoneApplies
-        (AppliesToIssue (maker_of issuer.seed) (order_of issuer.order) (alg_text issuer.key.alg) (IsGood issuer.key))) }
+    requires suits { Suits F.Fn holder.now.consent (order_of issuer.order) issuer.key holder.now.ask
+        holder_key policy.now presented_at verified_at }
+    ensures shown { IfOk result
+        (λ payload. tree_of payload ≡ claims_for (order_of issuer.order) holder.now.ask.want) }
+    ensures issued { IfOk result
+        (λ _. NoneApplies
+        (AppliesToIssue (maker_of issuer.seed) (order_of issuer.order) (alg_text issuer.key.alg)
+        (IsGood issuer.key))) }
     ensures refused { IfErr result
-        (IsNotIssued (maker_of issuer.seed) (order_of issuer.order) (alg_text issuer.key.alg) (IsGood issuer.key)) }
+        (IsNotIssued (maker_of issuer.seed) (order_of issuer.order) (alg_text issuer.key.alg)
+        (IsGood issuer.key)) }
     ensures signed { IfErr result (λ error. error ≢ IssueError.SignFailed) }
 {
     presented_values::<F>();

@@ -61,8 +61,8 @@ fn policy(alloc: Global, text: &str) -> Result<Policy, Fail>
 fn found(alloc: Global, issuer: Issuer, said: PresentFile, policy: &Policy) -> Result<TextBox, Fail>
     requires depth { depth (tree_of issuer.order.payload) ≤ json_depth_max }
     requires short { AreShort said.ask.binding }
-    requires suits { Suits never_rule said.never (order_of issuer.order) issuer.key said.ask (signing_key said.key)
-        policy.now 1000 1300 }
+    requires suits { Suits never_rule said.never (order_of issuer.order) issuer.key said.ask
+        (signing_key said.key) policy.now 1000 1300 }
 {
     let PresentFile { ask, never, key } = said;
     let key = key.ok_or("no key")?;

@@ -1,8 +1,9 @@
-//! How another program uses the libraries: two calls of a small service, and the way of a credential in one.
+//! How another program uses the libraries: two calls of a small service, and
+//! the way of a credential in one.
 //!
-//! [`claim_of`] verifies a presentation and answers one of its claims, and [`token_for`] issues a token.
-//! `docs/LIBRARY.md` goes through both. [`issue_present_verify`] is all three ends one behind another: its contract is
-//! what the libraries promise together.
+//! [`claim_of`] verifies a presentation and answers one of its claims, and [`token_for`] issues a
+//! token. `docs/LIBRARY.md` goes through both. [`issue_present_verify`] is all three ends one
+//! behind another: its contract is what the libraries promise together.
 #![tactic(auto)]
 
 mod claim;

@@ -21,9 +21,11 @@ use issuer_core::{DecoyList, IssueError, Order, issue_owned};
 use sd_outside::TextBox;
 use std::alloc::Global;
 
-/// The compact text of a new token for a payload, with each of these places hidden behind the digest of its disclosure.
+/// The compact text of a new token for a payload, with each of these places
+/// hidden behind the digest of its disclosure.
 ///
-/// The seed makes the salts, so take a new one for each token. The signer is asked once, when all else is there.
+/// The seed makes the salts, so take a new one for each token. The signer is
+/// asked once, when all else is there.
 pub fn token_for<S: Signer>(
     alloc: Global,
     payload: Tree,
@@ -34,7 +36,8 @@ pub fn token_for<S: Signer>(
     requires depth { depth (tree_of payload) ≤ json_depth_max }
     ensures token { IfOk result (IsTokenFor (maker_of seed.now)
         (order_for (tree_of payload) hide) (S.alg_name_of signer.old) (S.good signer.old)) }
-    ensures passes { IfOk result (λ _. NoneApplies (AppliesToOrder (order_for (tree_of payload) hide))) }
+    ensures passes { IfOk result
+        (λ _. NoneApplies (AppliesToOrder (order_for (tree_of payload) hide))) }
     ensures differ { IfOk result
         (λ _. HasNoClash (maker_of seed.now) (order_for (tree_of payload) hide)) }
     ensures short { IfOk result (λ text. length text ≤ issue_max) }

@@ -8,7 +8,8 @@ use Rattle.cli_parts.specs.Lines.{line}
 use Rattle.feed_core.specs.Cut.{IsCut}
 use Rattle.feed_core.specs.FeedVerdict.{TellsVerdicts}
 
--- the policy and the moment, what is kept of the line that has not ended, how many lines were judged, and whether the feed takes no more
+-- the policy and the moment, what is kept of the line that has not ended, how many lines were
+-- judged, and whether the feed takes no more
 pub record FeedState : Type 0 where
   pub policy : Policy
   pub now : ℕ
@@ -18,9 +19,11 @@ pub record FeedState : Type 0 where
 
 -- a feed that takes more
 abbrev pub taking : Policy → ℕ → List ℕ → ℕ → FeedState
-taking policy now rest count = record { policy = policy; now = now; rest = rest; count = count; over = false }
+taking policy now rest count =
+    record { policy = policy; now = now; rest = rest; count = count; over = false }
 
--- what is kept of a line that has not ended: one byte more than the limit tells a line that is too long
+-- what is kept of a line that has not ended: one byte more than the limit tells
+-- a line that is too long
 abbrev pub kept_rest : List ℕ → List ℕ
 kept_rest rest = take (file_max + 1) rest
 
@@ -30,15 +33,18 @@ pub record Takes (before after : FeedState) (piece text : List ℕ) : Type 0 whe
   pub rest : List ℕ
   pub cut : IsCut (before.rest ++ piece) ended rest
   pub told : TellsVerdicts before.policy before.now ended text
-  pub after_is : after ≡ taking before.policy before.now (kept_rest rest) (before.count + length ended)
+  pub after_is : after
+      ≡ taking before.policy before.now (kept_rest rest) (before.count + length ended)
 
--- the sink took a front part of the verdicts on these lines, of one after the other, and with all of them perhaps one of the text
--- behind them
-pub record TellsFront (policy : Policy) (now : ℕ) (lines : List (List ℕ)) (behind : List ℕ) (old new : Option (List ℕ)) : Type 0 where
+-- the sink took a front part of the verdicts on these lines, of one after the other, and with all
+-- of them perhaps one of the text behind them
+pub record TellsFront (policy : Policy) (now : ℕ) (lines : List (List ℕ)) (behind : List ℕ)
+    (old new : Option (List ℕ)) : Type 0 where
   pub count : ℕ
   pub text : List ℕ
   pub told : TellsVerdicts policy now (take count lines) text
-  pub written : AppendsPrefix old new text ⊎ ((take count lines ≡ lines) × AppendsPrefix old new (text ++ behind))
+  pub written : AppendsPrefix old new text
+      ⊎ ((take count lines ≡ lines) × AppendsPrefix old new (text ++ behind))
 
 -- how many lines there were
 abbrev pub end_line : ℕ → List ℕ

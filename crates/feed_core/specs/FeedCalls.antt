@@ -9,14 +9,17 @@ use Rattle.feed_core.specs.Feed.{FeedState, taking, Takes, TellsFront, end_line}
 abbrev pub new_feed : Policy → ℕ → FeedState
 new_feed policy now = taking policy now [] 0
 
--- since the feed was new it took these bytes, and the sink got the verdict on each line that ended in them, and nothing else
-pub record ToldSoFar (feed : FeedState) (bytes : List ℕ) (first last : Option (List ℕ)) : Type 0 where
+-- since the feed was new it took these bytes, and the sink got the verdict on
+-- each line that ended in them, and nothing else
+pub record ToldSoFar (feed : FeedState) (bytes : List ℕ) (first last : Option (List ℕ))
+    : Type 0 where
   pub text : List ℕ
   pub takes : Takes (new_feed feed.policy feed.now) feed bytes text
   pub written : Appends first last text
 
 -- no more than the lines that end in the piece were judged
-pub record TakesFront (before : FeedState) (piece : List ℕ) (old new : Option (List ℕ)) : Type 0 where
+pub record TakesFront (before : FeedState) (piece : List ℕ) (old new : Option (List ℕ))
+    : Type 0 where
   pub ended : List (List ℕ)
   pub rest : List ℕ
   pub cut : IsCut (before.rest ++ piece) ended rest

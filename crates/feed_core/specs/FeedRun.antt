@@ -23,7 +23,8 @@ pub record FeedOutside : Type 0 where
 abbrev pub feed_outside : Outside → Input → FeedOutside
 feed_outside files source = record { files = files; source = source }
 
--- the words of a feed: `feed`, the name of its policy file, and the most bytes that it takes, in digits
+-- the words of a feed: `feed`, the name of its policy file, and the most bytes
+-- that it takes, in digits
 pub record IsFeed (words : List (List ℕ)) (policy : List ℕ) (most : ℕ) : Type 0 where
   pub words_are : words ≡ codes "feed" ∷ policy ∷ decimal most ∷ []
   pub some : 0 < most
@@ -46,21 +47,26 @@ pub record Untouched (before after : FeedOutside) : Type 0 where
 
 pub record FeedDone (words : List (List ℕ)) (before after : FeedOutside) (now : ℕ) : Type 0 where
   pub asks : Asks words before
-  pub fed : FedAll asks.policy now asks.most before.source after.source before.files.out.written after.files.out.written
+  pub fed : FedAll asks.policy now asks.most before.source after.source before.files.out.written
+      after.files.out.written
   pub err : after.files.err.written ≡ before.files.err.written
 
--- what a source gave and what was written of it, under a policy, at a moment, where so many bytes may be taken
+-- what a source gave and what was written of it, under a policy, at a moment,
+-- where so many bytes may be taken
 abbrev pub Fed : Type 1
 Fed = Policy → ℕ → ℕ → Input → Input → Option (List ℕ) → Option (List ℕ) → Type 0
 
 -- a feed that was fed so tells this line
-pub record FeedTells (IsFed : Fed) (text : List ℕ) (words : List (List ℕ)) (before after : FeedOutside) (now : ℕ) : Type 0 where
+pub record FeedTells (IsFed : Fed) (text : List ℕ) (words : List (List ℕ))
+    (before after : FeedOutside) (now : ℕ) : Type 0 where
   pub asks : Asks words before
-  pub fed : IsFed asks.policy now asks.most before.source after.source before.files.out.written after.files.out.written
+  pub fed : IsFed asks.policy now asks.most before.source after.source before.files.out.written
+      after.files.out.written
   pub err : Tells before.files.err after.files.err (line text)
 
 -- the words are those of a feed, which did not begin and tells this
-pub record NoFeed (text : List ℕ) (words : List (List ℕ)) (before after : FeedOutside) : Type 0 where
+pub record NoFeed (text : List ℕ) (words : List (List ℕ)) (before after : FeedOutside)
+    : Type 0 where
   pub name : List ℕ
   pub most : ℕ
   pub named : IsFeed words name most
@@ -85,17 +91,20 @@ pub record PolicyUnread (words : List (List ℕ)) (before after : FeedOutside) :
 -- or the source failed
 pub data FeedUnread (words : List (List ℕ)) (before after : FeedOutside) (now : ℕ) : Type 0 where
   of_policy : PolicyUnread words before after → FeedUnread words before after now
-  of_source : FeedTells FedPart (codes "unread source") words before after now → FeedUnread words before after now
+  of_source : FeedTells FedPart (codes "unread source") words before after now
+      → FeedUnread words before after now
 
 -- `out` failed at a line that was due
-pub record FeedUnwritten (words : List (List ℕ)) (before after : FeedOutside) (now : ℕ) : Type 0 where
+pub record FeedUnwritten (words : List (List ℕ)) (before after : FeedOutside) (now : ℕ)
+    : Type 0 where
   pub told : FeedTells FedFront (codes "unwritten") words before after now
   pub rose : Rose before.files.out.faults after.files.out.faults
 
 -- there was no memory for the policy, or behind it
 pub data FeedMemory (words : List (List ℕ)) (before after : FeedOutside) (now : ℕ) : Type 0 where
   at_first : NoFeed (line (codes "memory")) words before after → FeedMemory words before after now
-  later_on : FeedTells FedFront (codes "memory") words before after now → FeedMemory words before after now
+  later_on : FeedTells FedFront (codes "memory") words before after now
+      → FeedMemory words before after now
 
 -- the policy file is not of its form
 pub record FeedUnreadable (words : List (List ℕ)) (before after : FeedOutside) : Type 0 where

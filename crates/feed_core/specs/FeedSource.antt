@@ -15,15 +15,18 @@ pub record Input : Type 0 where
   pub faults : ℕ
 
 abbrev pub input : {R : Type 0} → SourceGhosts R → R → Input
-input says source = record { left = says.left source; taken = says.taken source; faults = says.faults source }
+input says source =
+    record { left = says.left source; taken = says.taken source; faults = says.faults source }
 
 -- the source gave these bytes
 pub record Gave (before after : Input) (bytes : List ℕ) : Type 0 where
   pub left : Consumes before.left after.left bytes
   pub taken : after.taken ≡ before.taken + length bytes
 
--- the source gave all that it had, not too much, and each line of it is told, and how many there are
-pub record FedAll (policy : Policy) (now most : ℕ) (before after : Input) (old new : Option (List ℕ)) : Type 0 where
+-- the source gave all that it had, not too much, and each line of it is told,
+-- and how many there are
+pub record FedAll (policy : Policy) (now most : ℕ) (before after : Input)
+    (old new : Option (List ℕ)) : Type 0 where
   pub bytes : List ℕ
   pub gave : Gave before after bytes
   pub within : length bytes ≤ most
@@ -35,7 +38,8 @@ pub record FedAll (policy : Policy) (now most : ℕ) (before after : Input) (old
   pub written : Appends old new (text ++ end_line (length lines))
 
 -- the lines that end in these bytes are told, and no more
-pub record ToldEnded (policy : Policy) (now : ℕ) (bytes : List ℕ) (old new : Option (List ℕ)) : Type 0 where
+pub record ToldEnded (policy : Policy) (now : ℕ) (bytes : List ℕ) (old new : Option (List ℕ))
+    : Type 0 where
   pub ended : List (List ℕ)
   pub rest : List ℕ
   pub cut : IsCut bytes ended rest
@@ -44,14 +48,16 @@ pub record ToldEnded (policy : Policy) (now : ℕ) (bytes : List ℕ) (old new :
   pub written : Appends old new text
 
 -- the source gave one byte too many, and each line that ends before it is told
-pub record FedLong (policy : Policy) (now most : ℕ) (before after : Input) (old new : Option (List ℕ)) : Type 0 where
+pub record FedLong (policy : Policy) (now most : ℕ) (before after : Input)
+    (old new : Option (List ℕ)) : Type 0 where
   pub bytes : List ℕ
   pub gave : Gave before after bytes
   pub over : length bytes ≡ most + 1
   pub told : ToldEnded policy now (take most bytes) old new
 
 -- the source failed behind these bytes, and each line that ends in them is told
-pub record FedPart (policy : Policy) (now most : ℕ) (before after : Input) (old new : Option (List ℕ)) : Type 0 where
+pub record FedPart (policy : Policy) (now most : ℕ) (before after : Input)
+    (old new : Option (List ℕ)) : Type 0 where
   pub bytes : List ℕ
   pub gave : Gave before after bytes
   pub within : length bytes ≤ most
@@ -59,7 +65,8 @@ pub record FedPart (policy : Policy) (now most : ℕ) (before after : Input) (ol
   pub told : ToldEnded policy now bytes old new
 
 -- a front part of the verdicts on the lines of these bytes was written, one after the other
-pub record FedFront (policy : Policy) (now most : ℕ) (before after : Input) (old new : Option (List ℕ)) : Type 0 where
+pub record FedFront (policy : Policy) (now most : ℕ) (before after : Input)
+    (old new : Option (List ℕ)) : Type 0 where
   pub bytes : List ℕ
   pub gave : Gave before after bytes
   pub within : length bytes ≤ most

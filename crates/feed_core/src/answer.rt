@@ -9,7 +9,8 @@ use sd_outside::NoMemory;
 use std::alloc::Global;
 use verifier_core::Policy;
 
-// Judges the line that what is kept and these bytes make, and adds its verdict. Nothing is kept then.
+// Judges the line that what is kept and these bytes make, and adds its verdict.
+// Nothing is kept then.
 pub(crate) fn answer_kept(
     alloc: Global,
     policy: &Policy,
@@ -18,7 +19,9 @@ pub(crate) fn answer_kept(
     bytes: &[u8],
     held: &mut String,
 ) -> Result<(), NoMemory>
-    ensures told { OnOk result ((text : List ℕ) × TellsVerdicts policy.now now ((rest.old.items ++ bytes.now) ∷ []) text × (string_bytes held.new ≡ string_bytes held.old ++ text)) }
+    ensures told { OnOk result
+        ((text : List ℕ) × TellsVerdicts policy.now now ((rest.old.items ++ bytes.now) ∷ []) text
+        × (string_bytes held.new ≡ string_bytes held.old ++ text)) }
     ensures none { OnOk result (rest.new.items ≡ []) }
     ensures same { OnErr result (string_bytes held.new ≡ string_bytes held.old) }
 {
@@ -31,8 +34,8 @@ pub(crate) fn answer_kept(
     Ok(())
 }
 
-// Judges what stands behind the last line end, where it is not empty, and adds the verdict. The answer is how many
-// lines this makes.
+// Judges what stands behind the last line end, where it is not empty, and adds
+// the verdict. The answer is how many lines this makes.
 pub(crate) fn answer_last(
     alloc: Global,
     policy: &Policy,
@@ -40,7 +43,9 @@ pub(crate) fn answer_last(
     rest: &[u8],
     held: &mut String,
 ) -> Result<u64, NoMemory>
-    ensures told { OnOk result ((text : List ℕ) × TellsVerdicts policy.now now (last_line rest.now) text × (string_bytes held.new ≡ string_bytes held.old ++ text)) }
+    ensures told { OnOk result
+        ((text : List ℕ) × TellsVerdicts policy.now now (last_line rest.now) text
+        × (string_bytes held.new ≡ string_bytes held.old ++ text)) }
     ensures count { IfOk result (λ count. count ≡ length (last_line rest.now)) }
     ensures same { OnErr result (string_bytes held.new ≡ string_bytes held.old) }
 {

@@ -16,14 +16,16 @@ use std::alloc::Global;
 use std::marker::Model;
 use verifier_core::Policy;
 
-/// Judges tokens, one a line, that come in pieces, and writes one line for each: `accepted` and the processed payload
-/// as compact JSON, or the line of the lowest condition that fails.
+/// Judges tokens, one a line, that come in pieces, and writes one line for each: `accepted` and the
+/// processed payload as compact JSON, or the line of the lowest condition that fails.
 ///
-/// The verdicts of one piece go out as one text, at the end of its [`Feed::take`], and earlier where they have grown
-/// beyond 64 KiB. So what is held is at most 64 KiB and one verdict, and nothing is held between two calls.
+/// The verdicts of one piece go out as one text, at the end of its
+/// [`Feed::take`], and earlier where they have grown beyond 64 KiB. So what is
+/// held is at most 64 KiB and one verdict, and nothing is held between two calls.
 ///
-/// Contracts see its policy, its moment, what it keeps of a line that has not ended, how many lines it judged, and
-/// whether it is over. It keeps one byte more of a line than a file may have, which tells that the line is too long.
+/// Contracts see its policy, its moment, what it keeps of a line that has not
+/// ended, how many lines it judged, and whether it is over. It keeps one byte
+/// more of a line than a file may have, which tells that the line is too long.
 #[derive(Drop)]
 pub struct Feed {
     alloc: Global,
@@ -42,9 +44,16 @@ impl Model for Feed {
 
     ghost Value = { FeedState };
 
-    ghost view = { λ f. record { policy = f.policy; now = f.now; rest = f.rest.items; count = f.count; over = f.over } };
+    ghost view = { λ f. record {
+      policy = f.policy;
+      now = f.now;
+      rest = f.rest.items;
+      count = f.count;
+      over = f.over;
+    } };
 
-    ghost invariant = { λ f. f.over ≡ false → IsOneLine f.rest.items × (length f.rest.items ≤ file_max + 1) };
+    ghost invariant = { λ f.
+        f.over ≡ false → IsOneLine f.rest.items × (length f.rest.items ≤ file_max + 1) };
 }
 
 impl Feed {
@@ -62,16 +71,21 @@ impl Feed {
         }
     }
 
-    /// Takes the next piece, and writes a line for each line that ends in it. After an error the feed is over.
+    /// Takes the next piece, and writes a line for each line that ends in it.
+    /// After an error the feed is over.
     pub fn take<O: Sink>(&mut self, piece: &[u8], out: &mut O) -> Result<(), FeedError>
         requires { self.old.count + length piece.now < 2 ^ 64 }
-        ensures takes { OnOk result ((text : List ℕ) × Takes self.old self.new piece.now text × Appends (O.written out.old) (O.written out.new) text) }
+        ensures takes { OnOk result
+            ((text : List ℕ) × Takes self.old self.new piece.now text
+            × Appends (O.written out.old) (O.written out.new) text) }
         ensures few { self.new.count ≤ self.old.count + length piece.now }
         ensures same_policy { self.new.policy ≡ self.old.policy }
         ensures same_now { self.new.now ≡ self.old.now }
 
         // nothing is held back behind it: each line that ended in what was taken so far is told
-        ensures nothing_held { (bytes : List ℕ) (first : Option (List ℕ)) → ToldSoFar self.old bytes first (O.written out.old) → OnOk result (ToldSoFar self.new (bytes ++ piece.now) first (O.written out.new)) }
+        ensures nothing_held { (bytes : List ℕ) (first : Option (List ℕ))
+            → ToldSoFar self.old bytes first (O.written out.old)
+            → OnOk result (ToldSoFar self.new (bytes ++ piece.now) first (O.written out.new)) }
 
         // a feed that is over takes nothing
         ensures over { IsErrOf result FeedError.Over ↔ (self.old.over ≡ true) }
@@ -80,8 +94,10 @@ impl Feed {
 
         // an error ends the feed, in the middle of what it was to write
         ensures stops { OnErr result (self.new.over ≡ true) }
-        ensures front { OnErr result (TakesFront self.old piece.now (O.written out.old) (O.written out.new)) }
-        ensures cause { IsErrOf result FeedError.Unwritten → Rose (O.faults out.old) (O.faults out.new) }
+        ensures front { OnErr result
+            (TakesFront self.old piece.now (O.written out.old) (O.written out.new)) }
+        ensures cause { IsErrOf result FeedError.Unwritten
+            → Rose (O.faults out.old) (O.faults out.new) }
         ensures later { O.faults out.old ≤ O.faults out.new }
     {
         if self.over {
@@ -100,11 +116,13 @@ impl Feed {
         answer
     }
 
-    /// Ends the feed: a last line that has no line end is judged too, and the number of all lines is written and
-    /// answered.
+    /// Ends the feed: a last line that has no line end is judged too, and the
+    /// number of all lines is written and answered.
     pub fn end<O: Sink>(&mut self, out: &mut O) -> Result<u64, FeedError>
         requires { self.old.count + 1 < 2 ^ 64 }
-        ensures ends { OnOk result ((text : List ℕ) × IsEnded self.old text × Appends (O.written out.old) (O.written out.new) text) }
+        ensures ends { OnOk result
+            ((text : List ℕ) × IsEnded self.old text
+            × Appends (O.written out.old) (O.written out.new) text) }
         ensures count { IfOk result (λ count. count ≡ count_at_end self.old) }
         ensures counts { IfOk result (λ count. self.new.count ≡ count) }
         ensures stops { self.new.over ≡ true }
@@ -117,8 +135,11 @@ impl Feed {
         ensures same_out { IsErrOf result FeedError.Over → out.new ≡ out.old }
 
         // an error comes in the middle of what was to be written
-        ensures front { OnErr result (TellsFront self.old.policy self.old.now (last_line self.old.rest) (end_line (count_at_end self.old)) (O.written out.old) (O.written out.new)) }
-        ensures cause { IsErrOf result FeedError.Unwritten → Rose (O.faults out.old) (O.faults out.new) }
+        ensures front { OnErr result
+            (TellsFront self.old.policy self.old.now (last_line self.old.rest)
+            (end_line (count_at_end self.old)) (O.written out.old) (O.written out.new)) }
+        ensures cause { IsErrOf result FeedError.Unwritten
+            → Rose (O.faults out.old) (O.faults out.new) }
         ensures later { O.faults out.old ≤ O.faults out.new }
     {
         if self.over {
@@ -141,7 +162,8 @@ const KEPT_MAX: usize = FILE_MAX + 1;
 
 // What stands before the first line end, and behind it.
 fn split_line(text: &[u8]) -> Option<(&[u8], &[u8])>
-    ensures { MatchOption result (IsOneLine text.now) (λ parts. (text.now ≡ parts.0.now ++ 10 ∷ parts.1.now) × IsOneLine parts.0.now) }
+    ensures { MatchOption result (IsOneLine text.now)
+        (λ parts. (text.now ≡ parts.0.now ++ 10 ∷ parts.1.now) × IsOneLine parts.0.now) }
 {
     let at = memchr(b'\n', text)?;
     Some((&text[..at], &text[at + 1..]))
@@ -159,8 +181,8 @@ fn keep(rest: &mut Vec<u8>, bytes: &[u8]) -> Result<(), FeedError>
     Ok(())
 }
 
-// Answers each line that ends in the piece, and keeps what stands behind the last line end. The verdicts go out as one
-// text, and earlier where they are more than may wait.
+// Answers each line that ends in the piece, and keeps what stands behind the last line end. The
+// verdicts go out as one text, and earlier where they are more than may wait.
 fn answer_ended<O: Sink>(
     alloc: Global,
     policy: &Policy,
@@ -173,10 +195,17 @@ fn answer_ended<O: Sink>(
     requires one { IsOneLine rest.old.items }
     requires short { length rest.old.items ≤ file_max + 1 }
     requires countable { count.old + length piece.now < 2 ^ 64 }
-    ensures takes { OnOk result ((text : List ℕ) × Takes (taking policy.now now rest.old.items count.old) (taking policy.now now rest.new.items count.new) piece.now text × Appends (O.written out.old) (O.written out.new) text) }
+    ensures takes { OnOk result
+        ((text : List ℕ)
+        × Takes (taking policy.now now rest.old.items count.old)
+        (taking policy.now now rest.new.items count.new) piece.now text
+        × Appends (O.written out.old) (O.written out.new) text) }
     ensures few { count.new ≤ count.old + length piece.now }
-    ensures front { OnErr result (TakesFront (taking policy.now now rest.old.items count.old) piece.now (O.written out.old) (O.written out.new)) }
-    ensures cause { IsErrOf result FeedError.Unwritten → Rose (O.faults out.old) (O.faults out.new) }
+    ensures front { OnErr result
+        (TakesFront (taking policy.now now rest.old.items count.old) piece.now (O.written out.old)
+        (O.written out.new)) }
+    ensures cause { IsErrOf result FeedError.Unwritten
+        → Rose (O.faults out.old) (O.faults out.new) }
     ensures open { result ≢ Err FeedError.Over }
     ensures later { O.faults out.old ≤ O.faults out.new }
 {

@@ -1,7 +1,7 @@
 //! A verdict for each line of an input that comes in pieces.
 //!
-//! A [`Feed`] takes the input in pieces, judges each line as a token file, and writes one line for it. How the input is
-//! cut into pieces doesn't matter.
+//! A [`Feed`] takes the input in pieces, judges each line as a token file, and writes one line for
+//! it. How the input is cut into pieces doesn't matter.
 #![tactic(auto)]
 
 mod answer;

@@ -25,18 +25,21 @@ pub(crate) enum Halt {
     TooLong,
 }
 
-// The next bytes of the source, to the front of the room: at most so many, and none only at the end. Where none are
-// allowed any more, one is asked for, to see the end.
+// The next bytes of the source, to the front of the room: at most so many, and none only at the
+// end. Where none are allowed any more, one is asked for, to see the end.
 fn pull_piece<R: Source>(src: &mut R, room: &mut [u8], left: usize) -> Result<usize, Halt>
     requires room { 0 < length room.old }
     requires countable { R.taken src.old + length room.old < 2 ^ 64 }
-    ensures gave { IfOk result (λ count. Gave (input R.Source src.old) (input R.Source src.new) (take count room.new)) }
+    ensures gave { IfOk result
+        (λ count. Gave (input R.Source src.old) (input R.Source src.new) (take count room.new)) }
     ensures within { IfOk result (λ count. count ≤ left) }
     ensures fits { IfOk result (λ count. count ≤ length room.old) }
     ensures end { IfOk result (λ count. count ≡ 0 → IsAtEnd (R.left src.old)) }
-    ensures long { IsErrOf result Halt.TooLong → (byte : ℕ) × Gave (input R.Source src.old) (input R.Source src.new) (byte ∷ []) }
+    ensures long { IsErrOf result Halt.TooLong
+        → (byte : ℕ) × Gave (input R.Source src.old) (input R.Source src.new) (byte ∷ []) }
     ensures none_left { IsErrOf result Halt.TooLong → left ≡ 0 }
-    ensures unread { IsErrOf result Halt.Unread → Gave (input R.Source src.old) (input R.Source src.new) [] }
+    ensures unread { IsErrOf result Halt.Unread
+        → Gave (input R.Source src.old) (input R.Source src.new) [] }
     ensures cause { IsErrOf result Halt.Unread → Rose (R.faults src.old) (R.faults src.new) }
     ensures memory { result ≢ Err Halt.Memory }
     ensures written { result ≢ Err Halt.Unwritten }
@@ -68,8 +71,11 @@ fn halt_of(error: FeedError) -> Halt
 fn take_piece<O: Sink>(feed: &mut Feed, piece: &[u8], out: &mut O) -> Result<(), Halt>
     requires open { feed.old.over ≡ false }
     requires countable { feed.old.count + length piece.now < 2 ^ 64 }
-    ensures takes { OnOk result ((text : List ℕ) × Takes feed.old feed.new piece.now text × Appends (O.written out.old) (O.written out.new) text) }
-    ensures front { OnErr result (TakesFront feed.old piece.now (O.written out.old) (O.written out.new)) }
+    ensures takes { OnOk result
+        ((text : List ℕ) × Takes feed.old feed.new piece.now text
+        × Appends (O.written out.old) (O.written out.new) text) }
+    ensures front { OnErr result
+        (TakesFront feed.old piece.now (O.written out.old) (O.written out.new)) }
     ensures cause { IsErrOf result Halt.Unwritten → Rose (O.faults out.old) (O.faults out.new) }
     ensures read { result ≢ Err Halt.Unread }
     ensures short { result ≢ Err Halt.TooLong }
@@ -85,8 +91,12 @@ fn take_piece<O: Sink>(feed: &mut Feed, piece: &[u8], out: &mut O) -> Result<(),
 fn end_feed<O: Sink>(feed: &mut Feed, out: &mut O) -> Result<(), Halt>
     requires open { feed.old.over ≡ false }
     requires countable { feed.old.count + 1 < 2 ^ 64 }
-    ensures ends { OnOk result ((text : List ℕ) × IsEnded feed.old text × Appends (O.written out.old) (O.written out.new) text) }
-    ensures front { OnErr result (TellsFront feed.old.policy feed.old.now (last_line feed.old.rest) (end_line (count_at_end feed.old)) (O.written out.old) (O.written out.new)) }
+    ensures ends { OnOk result
+        ((text : List ℕ) × IsEnded feed.old text
+        × Appends (O.written out.old) (O.written out.new) text) }
+    ensures front { OnErr result
+        (TellsFront feed.old.policy feed.old.now (last_line feed.old.rest)
+        (end_line (count_at_end feed.old)) (O.written out.old) (O.written out.new)) }
     ensures cause { IsErrOf result Halt.Unwritten → Rose (O.faults out.old) (O.faults out.new) }
     ensures read { result ≢ Err Halt.Unread }
     ensures short { result ≢ Err Halt.TooLong }
@@ -108,11 +118,21 @@ pub(crate) fn pump<R: Source, O: Sink>(
     requires fresh { feed.old ≡ new_feed feed.old.policy feed.old.now }
     requires few { most ≤ feed_max }
     requires countable { R.taken src.old ≤ 2 ^ 63 }
-    ensures all { OnOk result (FedAll feed.old.policy feed.old.now most (input R.Source src.old) (input R.Source src.new) (O.written out.old) (O.written out.new)) }
-    ensures long { IsErrOf result Halt.TooLong → FedLong feed.old.policy feed.old.now most (input R.Source src.old) (input R.Source src.new) (O.written out.old) (O.written out.new) }
-    ensures part { IsErrOf result Halt.Unread → FedPart feed.old.policy feed.old.now most (input R.Source src.old) (input R.Source src.new) (O.written out.old) (O.written out.new) }
-    ensures memory { IsErrOf result Halt.Memory → FedFront feed.old.policy feed.old.now most (input R.Source src.old) (input R.Source src.new) (O.written out.old) (O.written out.new) }
-    ensures unwritten { IsErrOf result Halt.Unwritten → FedFront feed.old.policy feed.old.now most (input R.Source src.old) (input R.Source src.new) (O.written out.old) (O.written out.new) }
+    ensures all { OnOk result
+        (FedAll feed.old.policy feed.old.now most (input R.Source src.old) (input R.Source src.new)
+        (O.written out.old) (O.written out.new)) }
+    ensures long { IsErrOf result Halt.TooLong
+        → FedLong feed.old.policy feed.old.now most (input R.Source src.old)
+        (input R.Source src.new) (O.written out.old) (O.written out.new) }
+    ensures part { IsErrOf result Halt.Unread
+        → FedPart feed.old.policy feed.old.now most (input R.Source src.old)
+        (input R.Source src.new) (O.written out.old) (O.written out.new) }
+    ensures memory { IsErrOf result Halt.Memory
+        → FedFront feed.old.policy feed.old.now most (input R.Source src.old)
+        (input R.Source src.new) (O.written out.old) (O.written out.new) }
+    ensures unwritten { IsErrOf result Halt.Unwritten
+        → FedFront feed.old.policy feed.old.now most (input R.Source src.old)
+        (input R.Source src.new) (O.written out.old) (O.written out.new) }
     ensures cause { IsErrOf result Halt.Unwritten → Rose (O.faults out.old) (O.faults out.new) }
     ensures later { O.faults out.old ≤ O.faults out.new }
     ensures source_later { R.faults src.old ≤ R.faults src.new }

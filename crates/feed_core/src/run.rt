@@ -19,12 +19,18 @@ use verifier_core::Policy;
 
 // The policy of the file of this name.
 fn fetch_policy<C: Cabinet>(alloc: Global, cab: &mut C, name: &str) -> Result<Policy, Stop>
-    ensures policy { IfOk result (λ policy. (file : List ℕ) × IsFetched (C.holds cab.old) name.now file × IsPolicyFile file policy) }
-    ensures unreadable { IfErr result (λ stop. OnUnreadable stop (λ text. (file : List ℕ) × IsFetched (C.holds cab.old) name.now file × TellsFileFault (IsPolicyFileRefused file) text)) }
+    ensures policy { IfOk result
+        (λ policy. (file : List ℕ) × IsFetched (C.holds cab.old) name.now file
+        × IsPolicyFile file policy) }
+    ensures unreadable { IfErr result
+        (λ stop. OnUnreadable stop
+        (λ text. (file : List ℕ) × IsFetched (C.holds cab.old) name.now file
+        × TellsFileFault (IsPolicyFileRefused file) text)) }
     ensures fit { IfErr result (λ stop. OnRefused stop (λ _. ⊥)) }
     ensures word { IfErr result (λ stop. OnUnread stop (λ word. word ≡ 0)) }
     ensures missed { IfErr result (λ stop. OnUnread stop (λ _. C.missed cab.new ≡ Some name.now)) }
-    ensures rose { IfErr result (λ stop. OnUnread stop (λ _. Rose (C.faults cab.old) (C.faults cab.new))) }
+    ensures rose { IfErr result
+        (λ stop. OnUnread stop (λ _. Rose (C.faults cab.old) (C.faults cab.new))) }
     ensures held { (other : List ℕ) → C.holds cab.new other ≡ C.holds cab.old other }
     ensures later { C.faults cab.old ≤ C.faults cab.new }
 {
@@ -35,11 +41,12 @@ fn fetch_policy<C: Cabinet>(alloc: Global, cab: &mut C, name: &str) -> Result<Po
     policy_of(alloc, file.bytes())
 }
 
-/// Runs the feed that the words ask for: `feed`, the name of a policy file, and the most bytes that are taken.
+/// Runs the feed that the words ask for: `feed`, the name of a policy file, and
+/// the most bytes that are taken.
 ///
-/// Each line that the source gives is judged under the policy, at a moment in seconds since 1970, and answered by a
-/// line on `out`, as soon as it has ended. At the end comes the number of lines. What each status says of the outside
-/// before and after is `FeedEnds`, by cases.
+/// Each line that the source gives is judged under the policy, at a moment in seconds since 1970,
+/// and answered by a line on `out`, as soon as it has ended. At the end comes the number of lines.
+/// What each status says of the outside before and after is `FeedEnds`, by cases.
 pub fn run_feed<C: Cabinet, R: Source, O: Sink, E: Sink>(
     alloc: Global,
     words: &[String],
@@ -51,13 +58,15 @@ pub fn run_feed<C: Cabinet, R: Source, O: Sink, E: Sink>(
 ) -> Status
     requires { R.taken src.old ≤ 2 ^ 63 }
     ensures ends { FeedEnds (map string_bytes words.now)
-        (feed_outside (outside C.Cabinet O.Sink E.Sink cab.old out.old err.old) (input R.Source src.old))
-        (feed_outside (outside C.Cabinet O.Sink E.Sink cab.new out.new err.new) (input R.Source src.new))
-        now
-        result }
+        (feed_outside (outside C.Cabinet O.Sink E.Sink cab.old out.old err.old)
+        (input R.Source src.old))
+        (feed_outside (outside C.Cabinet O.Sink E.Sink cab.new out.new err.new)
+        (input R.Source src.new)) now result }
     ensures keeps { FeedKeeps
-        (feed_outside (outside C.Cabinet O.Sink E.Sink cab.old out.old err.old) (input R.Source src.old))
-        (feed_outside (outside C.Cabinet O.Sink E.Sink cab.new out.new err.new) (input R.Source src.new)) }
+        (feed_outside (outside C.Cabinet O.Sink E.Sink cab.old out.old err.old)
+        (input R.Source src.old))
+        (feed_outside (outside C.Cabinet O.Sink E.Sink cab.new out.new err.new)
+        (input R.Source src.new)) }
 {
     let Some((name, most)) = feed_words(words) else {
         return tell(err, "usage\n", Status::Usage);

@@ -11,9 +11,11 @@ const HELD_MAX: usize = 65_536;
 
 // Writes all that is held, in one piece.
 pub(crate) fn send<O: Sink>(held: &mut String, out: &mut O) -> Result<(), Failed>
-    ensures whole { OnOk result (Appends (O.written out.old) (O.written out.new) (string_bytes held.old)) }
+    ensures whole { OnOk result
+        (Appends (O.written out.old) (O.written out.new) (string_bytes held.old)) }
     ensures none { OnOk result (string_bytes held.new ≡ []) }
-    ensures part { OnErr result (AppendsPrefix (O.written out.old) (O.written out.new) (string_bytes held.old)) }
+    ensures part { OnErr result
+        (AppendsPrefix (O.written out.old) (O.written out.new) (string_bytes held.old)) }
     ensures failed { OnErr result (Rose (O.faults out.old) (O.faults out.new)) }
     ensures later { O.faults out.old ≤ O.faults out.new }
 {
@@ -27,9 +29,12 @@ pub(crate) fn send<O: Sink>(held: &mut String, out: &mut O) -> Result<(), Failed
 
 // Writes it where it is more than may wait.
 pub(crate) fn send_full<O: Sink>(held: &mut String, out: &mut O) -> Result<(), Failed>
-    ensures sent { OnOk result ((text : List ℕ) × (string_bytes held.old ≡ text ++ string_bytes held.new) × Appends (O.written out.old) (O.written out.new) text) }
+    ensures sent { OnOk result
+        ((text : List ℕ) × (string_bytes held.old ≡ text ++ string_bytes held.new)
+        × Appends (O.written out.old) (O.written out.new) text) }
     ensures within { OnOk result (length (string_bytes held.new) ≤ 65536) }
-    ensures part { OnErr result (AppendsPrefix (O.written out.old) (O.written out.new) (string_bytes held.old)) }
+    ensures part { OnErr result
+        (AppendsPrefix (O.written out.old) (O.written out.new) (string_bytes held.old)) }
     ensures failed { OnErr result (Rose (O.faults out.old) (O.faults out.new)) }
     ensures later { O.faults out.old ≤ O.faults out.new }
 {

@@ -15,7 +15,8 @@ use verifier_core::{Policy, VerifyError, fault_line, verify_payload};
 
 // Adds a line of two parts, whole or not at all.
 fn add_line(held: &mut String, front: &str, text: &str) -> Result<(), NoMemory>
-    ensures added { OnOk result (string_bytes held.new ≡ string_bytes held.old ++ line (front.now ++ text.now)) }
+    ensures added { OnOk result
+        (string_bytes held.new ≡ string_bytes held.old ++ line (front.now ++ text.now)) }
     ensures same { OnErr result (string_bytes held.new ≡ string_bytes held.old) }
 {
     held.reserve(front.len() + text.len() + 1)?;
@@ -27,7 +28,10 @@ fn add_line(held: &mut String, front: &str, text: &str) -> Result<(), NoMemory>
 
 // Adds the line of a token that is accepted, with this payload.
 fn add_accepted(alloc: Global, payload: &Tree, held: &mut String) -> Result<(), NoMemory>
-    ensures added { OnOk result (string_bytes held.new ≡ string_bytes held.old ++ line (codes "accepted " ++ json_text (tree_of payload.now))) }
+    ensures added { OnOk result
+        (string_bytes held.new
+        ≡ string_bytes held.old
+        ++ line (codes "accepted " ++ json_text (tree_of payload.now))) }
     ensures same { OnErr result (string_bytes held.new ≡ string_bytes held.old) }
 {
     let text = write(alloc, payload)?;
@@ -36,7 +40,8 @@ fn add_accepted(alloc: Global, payload: &Tree, held: &mut String) -> Result<(), 
 
 // Adds the line of a condition that fails.
 fn add_refused(alloc: Global, fault: &Fault, held: &mut String) -> Result<(), NoMemory>
-    ensures added { OnOk result (string_bytes held.new ≡ string_bytes held.old ++ line (fault_text fault.now)) }
+    ensures added { OnOk result
+        (string_bytes held.new ≡ string_bytes held.old ++ line (fault_text fault.now)) }
     ensures same { OnErr result (string_bytes held.new ≡ string_bytes held.old) }
 {
     let text = fault_line(alloc, fault)?;
@@ -51,7 +56,9 @@ pub(crate) fn add_verdict(
     token: &[u8],
     held: &mut String,
 ) -> Result<(), NoMemory>
-    ensures told { OnOk result ((text : List ℕ) × TellsVerdicts policy.now now (token.now ∷ []) text × (string_bytes held.new ≡ string_bytes held.old ++ text)) }
+    ensures told { OnOk result
+        ((text : List ℕ) × TellsVerdicts policy.now now (token.now ∷ []) text
+        × (string_bytes held.new ≡ string_bytes held.old ++ text)) }
     ensures same { OnErr result (string_bytes held.new ≡ string_bytes held.old) }
 {
     match verify_payload(alloc, token, policy, now, &mut Steps::new()) {

@@ -5,11 +5,13 @@ use Rattle.hmac_sign.specs.Signatures.{Meaning}
 
 -- the same signatures are good
 abbrev pub Agree : Meaning → Meaning → Type 0
-Agree good other = (head body signature : List ℕ) → good head body signature ↔ other head body signature
+Agree good other =
+    (head body signature : List ℕ) → good head body signature ↔ other head body signature
 
 -- what is good of the one is good of the other
 abbrev pub Implies : Meaning → Meaning → Type 0
-Implies good other = (head body signature : List ℕ) → good head body signature → other head body signature
+Implies good other =
+    (head body signature : List ℕ) → good head body signature → other head body signature
 
 -- each good signature is a list of bytes
 abbrev pub IsOfBytes : Meaning → Type 0

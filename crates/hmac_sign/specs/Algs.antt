@@ -1,4 +1,5 @@
--- The algorithms of signatures, RFC 7518 section 3.2: the name of each, its hash, and how long its blocks, codes and keys are.
+-- The algorithms of signatures, RFC 7518 section 3.2: the name of each, its
+-- hash, and how long its blocks, codes and keys are.
 use Rattle.std.specs.Prelude.{ℕ, List, [], ◌∷◌, Option, bytes_eq, codes, find}
 use Rattle.sd_outside.specs.Limits.{key_min}
 use Rattle.sha2.specs.Sha256.{sha256}

@@ -1,4 +1,5 @@
--- Not needed to believe the program's promises: what contracts see of a signer that fails at one call.
+-- Not needed to believe the program's promises: what contracts see of a signer
+-- that fails at one call.
 use Rattle.std.specs.Prelude.{ℕ, List, ◌==◌, if◌then◌else◌}
 use Rattle.sd_outside.specs.Memory.{one_more}
 

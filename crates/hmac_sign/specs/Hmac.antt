@@ -1,4 +1,5 @@
--- HMAC, RFC 2104, and the signatures HS256, HS384 and HS512, RFC 7515 section 5 and RFC 7518 section 3.2.
+-- HMAC, RFC 2104, and the signatures HS256, HS384 and HS512, RFC 7515 section 5
+-- and RFC 7518 section 3.2.
 use Rattle.std.specs.Prelude.{◌≡◌, ℕ, ◌-◌, List, ◌++◌, map, length, replicate, bit_xor, nat_lt, codes, if◌then◌else◌}
 use Rattle.b64url_text.specs.Base64url.{Decodes}
 use Rattle.hmac_sign.specs.Algs.{hash_by, block_length}
@@ -10,7 +11,9 @@ filled size key = key ++ replicate (size - length key) 0
 
 -- the key as a block: a key longer than a block is hashed first
 abbrev pub key_block : Alg → List ℕ → List ℕ
-key_block alg key = filled (block_length alg) (if nat_lt (block_length alg) (length key) then hash_by alg key else key)
+key_block alg key =
+    filled (block_length alg)
+    (if nat_lt (block_length alg) (length key) then hash_by alg key else key)
 
 -- each byte combined with one byte by exclusive or
 abbrev pub xored : List ℕ → ℕ → List ℕ
@@ -18,7 +21,9 @@ xored block pad = map (λ byte. bit_xor byte pad) block
 
 -- the HMAC of a text under a key
 abbrev pub hmac : Alg → List ℕ → List ℕ → List ℕ
-hmac alg key text = hash_by alg (xored (key_block alg key) 0x5c ++ hash_by alg (xored (key_block alg key) 0x36 ++ text))
+hmac alg key text =
+    hash_by alg
+    (xored (key_block alg key) 0x5c ++ hash_by alg (xored (key_block alg key) 0x36 ++ text))
 
 -- what contracts see of a key: its algorithm, and the block that is made of it
 pub record AlgKey : Type 0 where
@@ -43,4 +48,5 @@ IsGood key head body signature = signature ≡ mac key head body
 
 -- the text is the base64url text of a good signature, as it stands in a JWS (RFC 7515 section 5.2)
 abbrev pub IsGoodText : AlgKey → List ℕ → List ℕ → List ℕ → Type 0
-IsGoodText key head body text = (signature : List ℕ) × Decodes text signature × IsGood key head body signature
+IsGoodText key head body text =
+    (signature : List ℕ) × Decodes text signature × IsGood key head body signature

@@ -34,7 +34,8 @@ pub record IsFirstKey (P : Tree → Type 0) (es : Elements) (place : ℕ) : Type
 -- what one element adds to the keys; only private functions cite this
 pub data IsAdded (t : Tree) (old new : List NamedKey) : Type 0 where
   added_none : oct_text t ≡ None → new ≡ old → IsAdded t old new
-  added_key : (named : NamedKey) (bytes : List ℕ) → IsOct t bytes → key_min ≤ length bytes → IsNamedKey t bytes named → new ≡ old ++ named ∷ [] → IsAdded t old new
+  added_key : (named : NamedKey) (bytes : List ℕ) → IsOct t bytes → key_min ≤ length bytes
+      → IsNamedKey t bytes named → new ≡ old ++ named ∷ [] → IsAdded t old new
 
 -- the refusals of the codes alone, and of the lengths alone; only private functions cite these
 abbrev pub IsOfCodes : KeySetError → Type 0

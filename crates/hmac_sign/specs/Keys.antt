@@ -32,7 +32,9 @@ is_name (Some t) = is_some (text_of t)
 
 -- an object with a text `kty`; one of the kind `oct` has a text `k`, and no `kid` or a text
 abbrev pub is_key : Tree → Bool
-is_key t = if is_oct t then is_some (text_under t (codes "k")) && is_name (get t (codes "kid")) else is_some (text_under t (codes "kty"))
+is_key t =
+    if is_oct t then is_some (text_under t (codes "k")) && is_name (get t (codes "kid"))
+    else is_some (text_under t (codes "kty"))
 
 abbrev pub are_keys : Elements → Bool
 are_keys no_elements = true
@@ -50,7 +52,8 @@ pub record IsOct (t : Tree) (bytes : List ℕ) : Type 0 where
 
 -- the key of the bytes for an algorithm, where there are enough of them
 abbrev pub kept_key : Alg → List ℕ → Option AlgKey
-kept_key alg bytes = if nat_lt (length bytes) (key_least alg) then None else Some (alg_key alg bytes)
+kept_key alg bytes =
+    if nat_lt (length bytes) (key_least alg) then None else Some (alg_key alg bytes)
 
 -- what is kept of the bytes, for each algorithm, and of the `kid`
 pub record IsNamedKey (t : Tree) (bytes : List ℕ) (named : NamedKey) : Type 0 where
@@ -62,8 +65,11 @@ pub record IsNamedKey (t : Tree) (bytes : List ℕ) (named : NamedKey) : Type 0 
 -- the keys of the kind `oct`, in their order
 pub data KeysOf : Elements → List NamedKey → Type 0 where
   no_keys : KeysOf no_elements []
-  other : (t : Tree) (es : Elements) (keys : List NamedKey) → oct_text t ≡ None → KeysOf es keys → KeysOf (element t es) keys
-  key : (t : Tree) (es : Elements) (named : NamedKey) (keys : List NamedKey) (bytes : List ℕ) → IsOct t bytes → key_min ≤ length bytes → IsNamedKey t bytes named → KeysOf es keys → KeysOf (element t es) (named ∷ keys)
+  other : (t : Tree) (es : Elements) (keys : List NamedKey) → oct_text t ≡ None → KeysOf es keys
+      → KeysOf (element t es) keys
+  key : (t : Tree) (es : Elements) (named : NamedKey) (keys : List NamedKey) (bytes : List ℕ)
+      → IsOct t bytes → key_min ≤ length bytes → IsNamedKey t bytes named → KeysOf es keys
+      → KeysOf (element t es) (named ∷ keys)
 
 -- ---- what a reading answers
 
@@ -78,7 +84,8 @@ pub record IsKeySet (t : Tree) (keys : List NamedKey) : Type 0 where
 -- the first key of this name, for HS256
 abbrev pub key_named : List NamedKey → Text → Option (List ℕ)
 key_named [] kid = None
-key_named (named ∷ keys) kid = if has_text named.kid kid then Some named.hs256 else key_named keys kid
+key_named (named ∷ keys) kid =
+    if has_text named.kid kid then Some named.hs256 else key_named keys kid
 
 -- the element has this name, where one is given
 abbrev pub answers : Option Text → Option Text → Bool
@@ -94,4 +101,5 @@ key_by named Alg.Hs512 = named.hs512
 -- the key for an algorithm of the first element that has one and the name that is given
 abbrev pub picked_key : List NamedKey → Option Text → Alg → Option AlgKey
 picked_key [] kid alg = None
-picked_key (named ∷ keys) kid alg = option_or (if answers named.kid kid then key_by named alg else None) (picked_key keys kid alg)
+picked_key (named ∷ keys) kid alg =
+    option_or (if answers named.kid kid then key_by named alg else None) (picked_key keys kid alg)

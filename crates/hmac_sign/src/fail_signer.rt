@@ -74,7 +74,8 @@ impl Signer for FailSigner {
         ensures good { IfOk result (IsGood (hs256_key self.old.key) head.now body.now) }
         ensures some { IfOk result (λ signature. 0 < length signature) }
         ensures failed { IsErrOf result SignError.Failed → Rose self.old.faults self.new.faults }
-        ensures same_good { Agree (IsGood (hs256_key self.new.key)) (IsGood (hs256_key self.old.key)) }
+        ensures same_good { Agree (IsGood (hs256_key self.new.key))
+            (IsGood (hs256_key self.old.key)) }
         ensures later { self.old.faults ≤ self.new.faults }
 
         // it fails exactly at its call, and just then it counts

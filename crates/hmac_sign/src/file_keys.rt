@@ -11,10 +11,12 @@ use claim_tree::{Field, FileFault, Tree, TreeMap};
 use sd_outside::{ByteBox, NoMemory};
 use std::alloc::Global;
 
-/// The bytes of a tree that is the base64url text of at least 32 bytes, and None for any other tree.
+/// The bytes of a tree that is the base64url text of at least 32 bytes, and
+/// None for any other tree.
 pub fn key_bytes_of(alloc: Global, tree: &Tree) -> Result<Option<ByteBox>, NoMemory>
     ensures bytes { IfOk result (λ bytes. IfSome bytes (IsKeyBytes (tree_of tree.now))) }
-    ensures none { IfOk result (λ bytes. IfNone bytes (HasValue IsKeyBytes (tree_of tree.now) → ⊥)) }
+    ensures none { IfOk result
+        (λ bytes. IfNone bytes (HasValue IsKeyBytes (tree_of tree.now) → ⊥)) }
 {
     let Tree::Text(text) = tree else {
         return Ok(None);
@@ -45,7 +47,8 @@ pub fn key_bytes_member(
     }
 }
 
-/// The key for HS256 of a tree that is the base64url text of at least 32 bytes, and None for any other tree.
+/// The key for HS256 of a tree that is the base64url text of at least 32 bytes,
+/// and None for any other tree.
 pub fn key_of(alloc: Global, tree: &Tree) -> Result<Option<Hs256Key>, NoMemory>
     ensures key { IfOk result (λ key. IfSome key (IsKeyText (tree_of tree.now))) }
     ensures none { IfOk result (λ key. IfNone key (HasValue IsKeyText (tree_of tree.now) → ⊥)) }

@@ -29,7 +29,8 @@ impl Hasher {
 
     // With these bytes behind them.
     pub(crate) fn with(self, bytes: &[u8]) -> Hasher
-        ensures { (alg : Alg) (message : List ℕ) → IsHashing self alg message → IsHashing result alg (message ++ bytes.now) }
+        ensures { (alg : Alg) (message : List ℕ) → IsHashing self alg message
+            → IsHashing result alg (message ++ bytes.now) }
     {
         match self {
             Hasher::Sha256(hasher) => Hasher::Sha256(hasher.chain_update(bytes)),
@@ -40,7 +41,8 @@ impl Hasher {
 
     // The hash of all of them.
     pub(crate) fn finish(self) -> Mac
-        ensures { (alg : Alg) (message : List ℕ) → IsHashing self alg message → result ≡ hash_by alg message }
+        ensures { (alg : Alg) (message : List ℕ) → IsHashing self alg message
+            → result ≡ hash_by alg message }
     {
         let code = match self {
             Hasher::Sha256(hasher) => Code::Sha256(hasher.finalize()),

@@ -11,7 +11,8 @@ use sd_outside::ByteBox;
 use std::alloc::Global;
 use std::marker::Model;
 
-/// A key for HS256, the algorithm of key binding tokens. Contracts see the block of 64 bytes that HMAC makes of it.
+/// A key for HS256, the algorithm of key binding tokens. Contracts see the
+/// block of 64 bytes that HMAC makes of it.
 #[derive(Drop)]
 pub struct Hs256Key {
     key: HsKey,

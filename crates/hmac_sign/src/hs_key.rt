@@ -15,8 +15,8 @@ use std::marker::Model;
 #[derive(Clone, Copy, Debug, PartialEq, Eq)]
 pub struct KeyShort;
 
-/// A key for an algorithm. Contracts see its algorithm, and the block that HMAC makes of it, so keys of one block are
-/// one.
+/// A key for an algorithm. Contracts see its algorithm, and the block that HMAC
+/// makes of it, so keys of one block are one.
 #[derive(Drop)]
 pub struct HsKey {
     alg: Alg,
@@ -76,7 +76,8 @@ impl HsKey {
         body: &str,
         text: &str,
     ) -> Result<bool, NoMemory>
-        ensures { IfOk result (λ good. IsTrue good ↔ IsGoodText self.now head.now body.now text.now) }
+        ensures { IfOk result
+            (λ good. IsTrue good ↔ IsGoodText self.now head.now body.now text.now) }
     {
         match decode(alloc, text.as_bytes()) {
             Ok(signature) => Ok(self.check(head, body, signature.bytes())),

@@ -13,8 +13,8 @@ use sd_outside::{NoMemory, TextBox};
 use std::alloc::{AllocFailed, Global};
 use std::marker::Model;
 
-/// The bytes of one key as a key for each algorithm that has enough of them, and the name by which a header may ask for
-/// it.
+/// The bytes of one key as a key for each algorithm that has enough of them,
+/// and the name by which a header may ask for it.
 #[derive(Drop)]
 pub struct NamedKey {
     pub kid: Option<TextBox>,
@@ -89,7 +89,8 @@ impl<T: Drop> From<AllocFailed<T>> for KeySetError {
     }
 }
 
-/// The keys of the kind `oct` of a JSON Web Key Set (RFC 7517 section 5), in their order. Contracts see them so.
+/// The keys of the kind `oct` of a JSON Web Key Set (RFC 7517 section 5), in
+/// their order. Contracts see them so.
 #[derive(Drop)]
 pub struct KeySet {
     keys: Vec<NamedKey>,
@@ -105,13 +106,15 @@ impl Model for KeySet {
 }
 
 impl KeySet {
-    /// The set of a JSON value. Keys of another kind are left out, and so is what a key says beyond `kty`, `k` and
-    /// `kid`.
+    /// The set of a JSON value. Keys of another kind are left out, and so is
+    /// what a key says beyond `kty`, `k` and `kid`.
     pub fn read(alloc: Global, tree: &Tree) -> Result<KeySet, KeySetError>
         ensures ok { IfOk result (IsKeySet (tree_of tree.now)) }
         ensures not_a_set { IsErrOf result KeySetError.NotASet → IsNoKeySet (tree_of tree.now) }
-        ensures not_base64 { (place : ℕ) → IsErrOf result (KeySetError.KeyNotBase64 place) → KeyNotBase64At (tree_of tree.now) place }
-        ensures short { (place : ℕ) → IsErrOf result (KeySetError.KeyShort place) → KeyShortAt (tree_of tree.now) place }
+        ensures not_base64 { (place : ℕ) → IsErrOf result (KeySetError.KeyNotBase64 place)
+            → KeyNotBase64At (tree_of tree.now) place }
+        ensures short { (place : ℕ) → IsErrOf result (KeySetError.KeyShort place)
+            → KeyShortAt (tree_of tree.now) place }
     {
         let Some(Tree::List(list)) = get(tree, "keys") else {
             return Err(KeySetError::NotASet);
@@ -139,16 +142,18 @@ impl KeySet {
 
     /// The first key, for HS256. It takes no memory.
     pub fn first(&self) -> Option<&Hs256Key>
-        ensures { option_map (λ key. key.now) result ≡ option_map (λ named. named.hs256) (slice_get self.now 0) }
+        ensures { option_map (λ key. key.now) result
+            ≡ option_map (λ named. named.hs256) (slice_get self.now 0) }
     {
         let named = self.keys.first()?;
         Some(&named.hs256)
     }
 
-    /// The key for an algorithm, of the first element that has enough bytes for it and, where a name is given, that
-    /// name. It takes no memory.
+    /// The key for an algorithm, of the first element that has enough bytes for it and, where a
+    /// name is given, that name. It takes no memory.
     pub fn pick(&self, kid: Option<&str>, alg: Alg) -> Option<&HsKey>
-        ensures { option_map (λ key. key.now) result ≡ picked_key self.now (option_map (λ name. name.now) kid.entry) alg }
+        ensures { option_map (λ key. key.now) result
+            ≡ picked_key self.now (option_map (λ name. name.now) kid.entry) alg }
     {
         for named in &self.keys {
             if named.answers(kid)

@@ -100,8 +100,10 @@ fn kid_of(alloc: Global, tree: &Tree) -> Result<Option<TextBox>, NoMemory>
 
 // Finds the first key whose `k` is no code.
 pub(crate) fn all_decode(alloc: Global, trees: &[Tree]) -> Result<(), KeySetError>
-    ensures codes { OnOk result (NoneBefore IsKeyNotBase64 (elements_of trees.now) (length trees.now)) }
-    ensures no_code { (place : ℕ) → IsErrOf result (KeySetError.KeyNotBase64 place) → IsFirstKey IsKeyNotBase64 (elements_of trees.now) place }
+    ensures codes { OnOk result
+        (NoneBefore IsKeyNotBase64 (elements_of trees.now) (length trees.now)) }
+    ensures no_code { (place : ℕ) → IsErrOf result (KeySetError.KeyNotBase64 place)
+        → IsFirstKey IsKeyNotBase64 (elements_of trees.now) place }
     ensures no_other { IfErr result IsOfCodes }
 {
     for (place, tree) in trees.iter().enumerate() {
@@ -123,7 +125,8 @@ fn named_key(
 ) -> Result<NamedKey, KeySetError>
     ensures named { IfOk result (IsNamedKey (tree_of tree.now) bytes.now) }
     ensures enough { IfOk result (λ _. key_min ≤ length bytes.now) }
-    ensures short { (at : ℕ) → IsErrOf result (KeySetError.KeyShort at) → (at ≡ place) × (length bytes.now < key_min) }
+    ensures short { (at : ℕ) → IsErrOf result (KeySetError.KeyShort at)
+        → (at ≡ place) × (length bytes.now < key_min) }
     ensures no_other { IfErr result IsOfLengths }
 {
     let Ok(hs256) = Hs256Key::new(bytes) else {
@@ -146,7 +149,8 @@ fn add_key(
 ) -> Result<(), KeySetError>
     requires { IsKeyNotBase64 (tree_of tree.now) → ⊥ }
     ensures ok { OnOk result (IsAdded (tree_of tree.now) keys.old.items keys.new.items) }
-    ensures short { (at : ℕ) → IsErrOf result (KeySetError.KeyShort at) → (at ≡ place) × IsKeyShort (tree_of tree.now) }
+    ensures short { (at : ℕ) → IsErrOf result (KeySetError.KeyShort at)
+        → (at ≡ place) × IsKeyShort (tree_of tree.now) }
     ensures no_other { IfErr result IsOfLengths }
 {
     match oct_bytes(alloc, tree) {
@@ -164,7 +168,8 @@ fn add_key(
 pub(crate) fn make_keys(alloc: Global, trees: &[Tree]) -> Result<Vec<NamedKey>, KeySetError>
     requires { NoneBefore IsKeyNotBase64 (elements_of trees.now) (length trees.now) }
     ensures ok { IfOk result (λ keys. KeysOf (elements_of trees.now) keys.items) }
-    ensures short { (place : ℕ) → IsErrOf result (KeySetError.KeyShort place) → IsFirstKey IsKeyShort (elements_of trees.now) place }
+    ensures short { (place : ℕ) → IsErrOf result (KeySetError.KeyShort place)
+        → IsFirstKey IsKeyShort (elements_of trees.now) place }
     ensures no_other { IfErr result IsOfLengths }
 {
     let mut keys = Vec::new(alloc);

@@ -16,7 +16,8 @@ fn key_sets_are_read(rt: HostRuntime) -> Result<(), Fail> {
     Ok(())
 }
 
-// Keys of 32 bytes 1, 48 bytes 2 and 64 bytes 3 under one name, and one of 64 bytes 4 under another.
+// Keys of 32 bytes 1, 48 bytes 2 and 64 bytes 3 under one name, and one of 64
+// bytes 4 under another.
 #[test]
 fn the_first_key_that_is_long_enough_is_picked(rt: HostRuntime) -> Result<(), Fail> {
     let alloc = rt.alloc();

@@ -52,7 +52,8 @@ pub(crate) fn inner_hasher(alg: Alg, block: &[u8; BLOCK_MAX]) -> Hasher
 
 // The outer hash over the inner one.
 pub(crate) fn outer_hash(alg: Alg, block: &[u8; BLOCK_MAX], inner: &Mac) -> Mac
-    ensures { result ≡ hash_by alg (xored (take (block_length alg) block.now) OUTER_PAD ++ inner.now) }
+    ensures { result
+        ≡ hash_by alg (xored (take (block_length alg) block.now) OUTER_PAD ++ inner.now) }
 {
     front_hasher(alg, &block.map(|byte| byte ^ OUTER_PAD))
         .with(inner.bytes())

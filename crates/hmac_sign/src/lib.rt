@@ -1,8 +1,9 @@
-//! HMAC, RFC 2104, and who signs and who checks with it: HS256, HS384 and HS512, RFC 7518 section 3.2.
+//! HMAC, RFC 2104, and who signs and who checks with it: HS256, HS384 and
+//! HS512, RFC 7518 section 3.2.
 //!
-//! A [`Signer`] signs a head and a body, and a [`Checker`] tells which signatures are good. Both have one
-//! meaning of good, so a checker that agrees with a signer accepts all that it signs. An [`UnsignedJwt`] is what is to
-//! be signed.
+//! A [`Signer`] signs a head and a body, and a [`Checker`] tells which signatures are good. Both
+//! have one meaning of good, so a checker that agrees with a signer accepts all that it signs. An
+//! [`UnsignedJwt`] is what is to be signed.
 #![tactic(auto)]
 
 mod alg;

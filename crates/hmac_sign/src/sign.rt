@@ -39,7 +39,8 @@ pub trait Signer: Signatures {
     /// The name of the algorithm of its signatures.
     ghost alg_name_of: { Self → Text };
 
-    /// The name of the algorithm of the signatures, as the `alg` of a JWS header has it (RFC 7515 section 4.1.1).
+    /// The name of the algorithm of the signatures, as the `alg` of a JWS
+    /// header has it (RFC 7515 section 4.1.1).
     fn alg_name(&self) -> &str
         ensures { result.now ≡ alg_name_of self.now };
 
@@ -47,7 +48,8 @@ pub trait Signer: Signatures {
     fn sign(&mut self, alloc: Global, head: &str, body: &str) -> Result<ByteBox, SignError>
         ensures good { IfOk result (Self.good self.old head.now body.now) }
         ensures some { IfOk result (λ signature. 0 < length signature) }
-        ensures failed { IsErrOf result SignError.Failed → Rose (faults self.old) (faults self.new) }
+        ensures failed { IsErrOf result SignError.Failed
+            → Rose (faults self.old) (faults self.new) }
 
         // what stays
         ensures same_good { Agree (Self.good self.new) (Self.good self.old) }

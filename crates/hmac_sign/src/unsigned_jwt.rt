@@ -10,8 +10,8 @@ use compact_form::JwtParts;
 use sd_outside::{NoMemory, TextBox};
 use std::alloc::Global;
 
-/// What is to be signed of a JWT: its JWS header and its payload, as base64url texts. The signature is over both, with a
-/// full stop between them (RFC 7515 section 5.1).
+/// What is to be signed of a JWT: its JWS header and its payload, as base64url texts. The signature
+/// is over both, with a full stop between them (RFC 7515 section 5.1).
 #[derive(Debug, Drop)]
 pub struct UnsignedJwt {
     pub protected: TextBox,
@@ -21,7 +21,8 @@ pub struct UnsignedJwt {
 impl UnsignedJwt {
     /// The text that the signature is over.
     pub fn text(&self, alloc: Global) -> Result<TextBox, NoMemory>
-        ensures { IfOk result (λ text. text ≡ self.now.protected ++ (codes "." ++ self.now.payload)) }
+        ensures { IfOk result
+            (λ text. text ≡ self.now.protected ++ (codes "." ++ self.now.payload)) }
     {
         let mut text = String::with_capacity(alloc, self.protected.as_str().len())?;
         text.push_str(self.protected.as_str())?;
@@ -45,7 +46,8 @@ impl UnsignedJwt {
     /// The JWT with a signature of the signer, which is asked once.
     pub fn sign<S: Signer>(self, alloc: Global, signer: &mut S) -> Result<JwtParts, SignError>
         ensures signed { IfOk result (IsSignedBy self (S.good signer.old)) }
-        ensures failed { IsErrOf result SignError.Failed → Rose (S.faults signer.old) (S.faults signer.new) }
+        ensures failed { IsErrOf result SignError.Failed
+            → Rose (S.faults signer.old) (S.faults signer.new) }
 
         // what stays
         ensures same_good { Agree (S.good signer.new) (S.good signer.old) }

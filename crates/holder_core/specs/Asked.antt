@@ -1,4 +1,5 @@
--- What is asked of a holder, whoever may have signed the token, and whoever signs the key binding token.
+-- What is asked of a holder, whoever may have signed the token, and whoever
+-- signs the key binding token.
 use Rattle.std.specs.Prelude.{◌≡◌, List, [], map, Option, None, Some, option_map}
 use Rattle.claim_tree.specs.Tree.{Text}
 use Rattle.hmac_sign.specs.Algs.{algs, alg_text}
@@ -12,13 +13,15 @@ use Rattle.holder_core.specs.declared.ask.BindingAsk.{BindingAsk}
 use Rattle.holder_core.specs.declared.ask.CallerAsk.{CallerAsk}
 use Rattle.holder_core.specs.declared.ask.CallerBinding.{CallerBinding}
 
--- what a key binding token is to say, and the name of the holder's key, where the claim `cnf` has to tell one
+-- what a key binding token is to say, and the name of the holder's key, where
+-- the claim `cnf` has to tell one
 pub record BindingAsked : Type 0 where
   pub kid : Option Text
   pub aud : Text
   pub nonce : Text
 
--- who may have signed the token, which places are wanted, and what a key binding token is to say, where one is asked for
+-- who may have signed the token, which places are wanted, and what a key
+-- binding token is to say, where one is asked for
 pub record Asked : Type 0 where
   pub rules : Rules
   pub want : List Path
@@ -45,11 +48,17 @@ abbrev pub binding_asked : BindingAsk → BindingAsked
 binding_asked ask = record { kid = Some ask.kid; aud = ask.aud; nonce = ask.nonce }
 
 abbrev pub asked_by : Ask → Asked
-asked_by ask = record { rules = held_rules ask.keys; want = ask.want; binding = option_map binding_asked ask.binding }
+asked_by ask =
+    record {
+      rules = held_rules ask.keys;
+      want = ask.want;
+      binding = option_map binding_asked ask.binding;
+    }
 
 -- ---- where a caller checks the issuer's signature, and makes the holder's
 
--- it may be signed with these algorithms, and this was said of its signature; its type is not judged
+-- it may be signed with these algorithms, and this was said of its signature;
+-- its type is not judged
 abbrev pub caller_rules : List Text → Option SignatureAnswer → Rules
 caller_rules algs answer = record { issuers = of_caller (saying algs answer); typ = None }
 
@@ -57,7 +66,12 @@ abbrev pub caller_binding : CallerBinding → BindingAsked
 caller_binding ask = record { kid = ask.kid; aud = ask.aud; nonce = ask.nonce }
 
 abbrev pub asked_by_caller : CallerAsk → Option SignatureAnswer → Asked
-asked_by_caller ask answer = record { rules = caller_rules ask.algs answer; want = ask.want; binding = option_map caller_binding ask.binding }
+asked_by_caller ask answer =
+    record {
+      rules = caller_rules ask.algs answer;
+      want = ask.want;
+      binding = option_map caller_binding ask.binding;
+    }
 
 -- the name of the algorithm of the holder's signature; where none is to be made, it says nothing
 abbrev pub alg_asked : Option CallerBinding → Text

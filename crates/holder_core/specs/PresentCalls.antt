@@ -11,10 +11,13 @@ use Rattle.compact_form.specs.Lowest.{IsLowest}
 use Rattle.holder_core.specs.declared.errors.PresentError.{PresentError}
 use Rattle.holder_core.specs.declared.errors.PresentError.TheVariants.{Memory, Token as OnCondition}
 
--- what fails each condition on a text that is to be presented: on the file, or on the token that it is read as
-pub data PresentFails (content : Text) (asked : Asked) (c : Condition) (place : Place) : Type 0 where
+-- what fails each condition on a text that is to be presented: on the file, or
+-- on the token that it is read as
+pub data PresentFails (content : Text) (asked : Asked) (c : Condition) (place : Place)
+    : Type 0 where
   of_file : FileFails content c place → PresentFails content asked c place
-  of_token : (token : Token) → IsToken content token → TokenFails token asked.rules c place → PresentFails content asked c place
+  of_token : (token : Token) → IsToken content token → TokenFails token asked.rules c place
+      → PresentFails content asked c place
 
 -- why the conditions 5 to 21 refuse a token: by the lowest that fails; want of memory says nothing
 abbrev pub IsUnchecked : Token → Rules → PresentError → Type 0

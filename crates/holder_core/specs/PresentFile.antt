@@ -33,7 +33,9 @@ both _ _ = None
 
 -- the members of a present order
 abbrev pub present_table : List Entry
-present_table = required Keys IsKeySet ∷ optional Want (IsListOf IsPointer) ∷ optional Never (IsListOf IsPointer) ∷ optional Binding IsBindingOrder ∷ []
+present_table =
+    required Keys IsKeySet ∷ optional Want (IsListOf IsPointer)
+    ∷ optional Never (IsListOf IsPointer) ∷ optional Binding IsBindingOrder ∷ []
 
 -- the file says this
 pub record IsPresentFile (bytes : Text) (said : PresentFile) : Type 0 where

@@ -45,21 +45,26 @@ IsUnread content HasBinding = (token : Token) × IsToken content token × (token
 IsUnread content _ = ⊥
 
 -- these are the marks that lead to the wanted places, which are there, and the rule may allow them
-pub record IsChosen {F : Type 0} (answers : RuleAnswers F) (rule : F) (m : Marked) (want : List Path) (marks : List ℕ) : Type 0 where
+pub record IsChosen {F : Type 0} (answers : RuleAnswers F) (rule : F) (m : Marked)
+    (want : List Path) (marks : List ℕ) : Type 0 where
   pub same : (i : ℕ) → has marks i ≡ chosen m want i
   pub there : AtNone (IsMissing (strip m) want)
   pub allowed : AllAllowed answers rule m (chosen m want)
 
-abbrev pub IsUnchosen : {F : Type 0} → RuleAnswers F → F → Marked → List Path → PresentError → Type 0
+abbrev pub IsUnchosen : {F : Type 0} → RuleAnswers F → F → Marked → List Path → PresentError
+    → Type 0
 IsUnchosen answers rule m want Memory = Unit {0}
 IsUnchosen answers rule m want (NoSuchPlace k) = IsLeast (IsMissing (strip m) want) k
-IsUnchosen answers rule m want (ConsentRefused i) = AtNone (IsMissing (strip m) want) × IsRefusedAt answers rule m (chosen m want) i
+IsUnchosen answers rule m want (ConsentRefused i) =
+    AtNone (IsMissing (strip m) want) × IsRefusedAt answers rule m (chosen m want) i
 IsUnchosen answers rule m want _ = ⊥
 
 -- a key binding token is asked for, and the payload does not name its key
 abbrev pub IsOtherKey : Option BindingAsked → Tree → PresentError → Type 0
 IsOtherKey binding payload Memory = Unit {0}
-IsOtherKey binding payload BindingKeyDiffers = (ask : BindingAsked) × (kid : Text) × (binding ≡ Some ask) × (ask.kid ≡ Some kid) × (holder_kid payload ≢ Some kid)
+IsOtherKey binding payload BindingKeyDiffers =
+    (ask : BindingAsked) × (kid : Text) × (binding ≡ Some ask) × (ask.kid ≡ Some kid)
+    × (holder_kid payload ≢ Some kid)
 IsOtherKey binding payload _ = ⊥
 
 -- this is the payload, where a key binding token is asked for
@@ -67,8 +72,10 @@ abbrev pub IsShown : Option BindingAsked → Tree → Option declared.Tree → T
 IsShown None payload shown = Unit {0}
 IsShown (Some ask) payload shown = option_map tree_of shown ≡ Some payload
 
--- the parts are those of the token with the disclosures that are asked for, and nothing is refused before they are signed
-pub record IsReady {F : Type 0} (answers : RuleAnswers F) (rule : F) (token : Token) (asked : Asked) (marked : Marked) (unbound : Unbound) : Type 0 where
+-- the parts are those of the token with the disclosures that are asked for, and
+-- nothing is refused before they are signed
+pub record IsReady {F : Type 0} (answers : RuleAnswers F) (rule : F) (token : Token) (asked : Asked)
+    (marked : Marked) (unbound : Unbound) : Type 0 where
   pub agreed : IsAgreed answers rule token asked marked
   pub key : NamesKey asked.binding (shown_for marked asked.want)
   pub presents : PicksParts token.parts (chosen marked asked.want) None unbound.parts
@@ -84,16 +91,20 @@ IsUnready answers rule token asked _ = ⊥
 
 -- the same for some processed payload
 abbrev pub IsMadeReady : {F : Type 0} → RuleAnswers F → F → Token → Asked → Unbound → Type 0
-IsMadeReady answers rule token asked unbound = (marked : Marked) × IsReady answers rule token asked marked unbound
+IsMadeReady answers rule token asked unbound =
+    (marked : Marked) × IsReady answers rule token asked marked unbound
 
 -- the token is refused, or what is asked of it
-abbrev pub IsUncheckedOrUnready : {F : Type 0} → RuleAnswers F → F → Token → Asked → PresentError → Type 0
-IsUncheckedOrUnready answers rule token asked e = IsUnchecked token asked.rules e ⊎ IsUnready answers rule token asked e
+abbrev pub IsUncheckedOrUnready : {F : Type 0} → RuleAnswers F → F → Token → Asked → PresentError
+    → Type 0
+IsUncheckedOrUnready answers rule token asked e =
+    IsUnchecked token asked.rules e ⊎ IsUnready answers rule token asked e
 
 -- ---- the signature
 
 -- the key binding token that is asked for is made over the parts, but for its signature
-pub record IsToBeBound (binding : Option BindingAsked) (alg : Text) (hash : HashAlg) (now : ℕ) (unbound : Unbound) (unsigned : UnsignedPresentation) : Type 0 where
+pub record IsToBeBound (binding : Option BindingAsked) (alg : Text) (hash : HashAlg) (now : ℕ)
+    (unbound : Unbound) (unsigned : UnsignedPresentation) : Type 0 where
   pub ask : BindingAsked
   pub asked_for : binding ≡ Some ask
   pub parts : unsigned.parts ≡ unbound.parts
@@ -103,7 +114,8 @@ pub record IsToBeBound (binding : Option BindingAsked) (alg : Text) (hash : Hash
 -- no key binding token is asked for, and these are the parts; or one is made but for its signature
 abbrev pub IsUnsignedOf : Option BindingAsked → Text → HashAlg → ℕ → Unbound → Unsigned → Type 0
 IsUnsignedOf binding alg hash now unbound (Alone parts) = (binding ≡ None) × (parts ≡ unbound.parts)
-IsUnsignedOf binding alg hash now unbound (ToSign unsigned) = IsToBeBound binding alg hash now unbound unsigned
+IsUnsignedOf binding alg hash now unbound (ToSign unsigned) =
+    IsToBeBound binding alg hash now unbound unsigned
 
 -- no key binding token is asked for, and the parts are too long
 abbrev pub IsLongAlone : Option BindingAsked → Parts → PresentError → Type 0
@@ -112,9 +124,12 @@ IsLongAlone binding parts TooLong = (binding ≡ None) × (compact_max < length 
 IsLongAlone binding parts _ = ⊥
 
 -- the answer as it is, where no key binding token is asked for, or all of it but for the signature
-abbrev pub IsUnsigned : {F : Type 0} → RuleAnswers F → F → Token → Asked → Text → ℕ → Unsigned → Type 0
-IsUnsigned answers rule token asked alg now (Alone parts) = IsAnswer answers rule token asked alg none_good now parts
-IsUnsigned answers rule token asked alg now (ToSign unsigned) = IsToSign answers rule token asked alg now unsigned
+abbrev pub IsUnsigned : {F : Type 0} → RuleAnswers F → F → Token → Asked → Text → ℕ → Unsigned
+    → Type 0
+IsUnsigned answers rule token asked alg now (Alone parts) =
+    IsAnswer answers rule token asked alg none_good now parts
+IsUnsigned answers rule token asked alg now (ToSign unsigned) =
+    IsToSign answers rule token asked alg now unsigned
 
 -- what is so of the parts that need no signature, or of what is to be signed
 abbrev pub OnUnsigned : Unsigned → (Parts → Type 0) → (UnsignedPresentation → Type 0) → Type 0
@@ -127,13 +142,16 @@ IsShort parts = length (compact parts) ≤ compact_max
 
 -- the parts with this key binding token
 abbrev pub IsWithBinding : Parts → JwtParts → Parts → Type 0
-IsWithBinding unbound token answer = (answer.signed ≡ unbound.signed) × (answer.disclosures ≡ unbound.disclosures) × (answer.binding ≡ Some token)
+IsWithBinding unbound token answer =
+    (answer.signed ≡ unbound.signed) × (answer.disclosures ≡ unbound.disclosures)
+    × (answer.binding ≡ Some token)
 
 -- it was not signed, or is too long
 abbrev pub IsUnsent : UnsignedPresentation → Meaning → PresentError → Type 0
 IsUnsent unsigned good Memory = Unit {0}
 IsUnsent unsigned good SignFailed = Unit {0}
-IsUnsent unsigned good TooLong = (answer : Parts) × IsSentBy unsigned good answer × (compact_max < length (compact answer))
+IsUnsent unsigned good TooLong =
+    (answer : Parts) × IsSentBy unsigned good answer × (compact_max < length (compact answer))
 IsUnsent unsigned good _ = ⊥
 
 -- ---- the issuer's signature
@@ -146,13 +164,16 @@ IsSignedOrEarly token rules _ = IsSigned token.parts.signed token.outer rules
 
 -- the caller is asked for the signature of this token
 abbrev pub AsksOf : Token → CallerAsk → Option SignatureAnswer → Presentation → Type 0
-AsksOf token ask answer (AsksIssuer question) = (answer ≡ None) × IsIssuerAsked ask token × IsQuestion token.parts.signed token.outer question
+AsksOf token ask answer (AsksIssuer question) =
+    (answer ≡ None) × IsIssuerAsked ask token × IsQuestion token.parts.signed token.outer question
 AsksOf token ask answer _ = ⊥
 
 -- ---- a token without disclosures
 
--- each wanted place is in the payload, which names the key of the ask, and the parts are those of the token with no disclosure
-pub record IsWholeReady (token : Token) (asked : Asked) (payload : Tree) (unbound : Unbound) : Type 0 where
+-- each wanted place is in the payload, which names the key of the ask, and the
+-- parts are those of the token with no disclosure
+pub record IsWholeReady (token : Token) (asked : Asked) (payload : Tree) (unbound : Unbound)
+    : Type 0 where
   pub there : AtNone (IsMissing payload asked.want)
   pub key : NamesKey asked.binding payload
   pub presents : PicksParts token.parts (has []) None unbound.parts
@@ -162,5 +183,6 @@ pub record IsWholeReady (token : Token) (asked : Asked) (payload : Tree) (unboun
 abbrev pub IsWholeUnready : Asked → Tree → PresentError → Type 0
 IsWholeUnready asked payload Memory = Unit {0}
 IsWholeUnready asked payload (NoSuchPlace k) = IsLeast (IsMissing payload asked.want) k
-IsWholeUnready asked payload BindingKeyDiffers = AtNone (IsMissing payload asked.want) × IsOtherKey asked.binding payload BindingKeyDiffers
+IsWholeUnready asked payload BindingKeyDiffers =
+    AtNone (IsMissing payload asked.want) × IsOtherKey asked.binding payload BindingKeyDiffers
 IsWholeUnready asked payload _ = ⊥

@@ -1,5 +1,6 @@
--- Not needed to believe the program's promises: presenting in two steps, where a caller checks the issuer's
--- signature and makes the holder's: what is asked, what is to be signed, and what is presented then.
+-- Not needed to believe the program's promises: presenting in two steps, where
+-- a caller checks the issuer's signature and makes the holder's: what is asked,
+-- what is to be signed, and what is presented then.
 use Rattle.std.specs.Prelude.{◌≡◌, ◌<◌, ℕ, List, length, None, Some, Option, Result, Ok, Err}
 use Rattle.claim_tree.specs.Tree.{Text}
 use Rattle.claim_tree.specs.View.{tree_of}
@@ -38,15 +39,17 @@ none_good head body signature = ⊥
 
 -- ---- the issuer's signature
 
--- it is to be known whether the issuer's signature is good: the token has no key binding token, no condition below 10 fails where
--- nothing is said, and the text of the signature is that of some bytes
+-- it is to be known whether the issuer's signature is good: the token has no
+-- key binding token, no condition below 10 fails where nothing is said, and the
+-- text of the signature is that of some bytes
 pub record IsIssuerAsked (ask : CallerAsk) (token : Token) : Type 0 where
   pub unbound : token.parts.binding ≡ None
   pub passes : Passes 10 (TokenFails token (caller_rules ask.algs None))
   pub signature : IsNoSignature token.parts.signed.signature → ⊥
 
 -- nothing was said, and the question is about the issuer's signature
-pub record AsksIssuer (content : Text) (ask : CallerAsk) (answer : Option SignatureAnswer) (question : Question) : Type 0 where
+pub record AsksIssuer (content : Text) (ask : CallerAsk) (answer : Option SignatureAnswer)
+    (question : Question) : Type 0 where
   pub unsaid : answer ≡ None
   pub token : Token
   pub is_token : IsToken content token
@@ -55,14 +58,18 @@ pub record AsksIssuer (content : Text) (ask : CallerAsk) (answer : Option Signat
 
 -- ---- the holder's signature
 
--- it is the key binding token that is asked for, over this text, but for its signature, and is read as that
-pub record IsUnsignedFor (ask : BindingAsked) (alg : Text) (hash : HashAlg) (text : Text) (now : ℕ) (unsigned : UnsignedJwt) : Type 0 where
+-- it is the key binding token that is asked for, over this text, but for its
+-- signature, and is read as that
+pub record IsUnsignedFor (ask : BindingAsked) (alg : Text) (hash : HashAlg) (text : Text) (now : ℕ)
+    (unsigned : UnsignedJwt) : Type 0 where
   pub texts : IsUnsignedBinding alg hash text ask.aud ask.nonce now unsigned
-  pub read_back : AreReadBack alg hash text ask.aud ask.nonce now unsigned.protected unsigned.payload
+  pub read_back : AreReadBack alg hash text ask.aud ask.nonce now unsigned.protected
+      unsigned.payload
 
--- nothing is refused of the token: its chosen disclosures are there, with the key binding token over them that is to be signed by the
--- algorithm of this name, and with what they show
-pub record IsToSign {F : Type 0} (answers : RuleAnswers F) (rule : F) (token : Token) (asked : Asked) (alg : Text) (now : ℕ) (unsigned : UnsignedPresentation) : Type 0 where
+-- nothing is refused of the token: its chosen disclosures are there, with the key binding token
+-- over them that is to be signed by the algorithm of this name, and with what they show
+pub record IsToSign {F : Type 0} (answers : RuleAnswers F) (rule : F) (token : Token)
+    (asked : Asked) (alg : Text) (now : ℕ) (unsigned : UnsignedPresentation) : Type 0 where
   pub marked : Marked
   pub agreed : IsAgreed answers rule token asked marked
   pub key : NamesKey asked.binding (shown_for marked asked.want)
@@ -75,13 +82,15 @@ pub record IsToSign {F : Type 0} (answers : RuleAnswers F) (rule : F) (token : T
   pub payload : tree_of unsigned.payload ≡ shown_for marked asked.want
 
 -- the same of a text
-pub record IsToPresent {F : Type 0} (answers : RuleAnswers F) (rule : F) (content : Text) (asked : Asked) (alg : Text) (now : ℕ) (unsigned : UnsignedPresentation) : Type 0 where
+pub record IsToPresent {F : Type 0} (answers : RuleAnswers F) (rule : F) (content : Text)
+    (asked : Asked) (alg : Text) (now : ℕ) (unsigned : UnsignedPresentation) : Type 0 where
   pub token : Token
   pub is_token : IsToken content token
   pub is_to_sign : IsToSign answers rule token asked alg now unsigned
 
 -- the parts with the key binding token that has this signature
-pub record IsSentWith (unsigned : UnsignedPresentation) (signature : List ℕ) (answer : Parts) : Type 0 where
+pub record IsSentWith (unsigned : UnsignedPresentation) (signature : List ℕ) (answer : Parts)
+    : Type 0 where
   pub signed : answer.signed ≡ unsigned.parts.signed
   pub disclosures : answer.disclosures ≡ unsigned.parts.disclosures
   pub token : JwtParts
@@ -89,7 +98,8 @@ pub record IsSentWith (unsigned : UnsignedPresentation) (signature : List ℕ) (
   pub with_it : IsSignedWith unsigned.binding signature token
 
 -- the parts with a signature that is good, and not empty
-pub record IsSentBy (unsigned : UnsignedPresentation) (good : Meaning) (answer : Parts) : Type 0 where
+pub record IsSentBy (unsigned : UnsignedPresentation) (good : Meaning) (answer : Parts)
+    : Type 0 where
   pub signature : List ℕ
   pub some : 0 < length signature
   pub with_it : IsSentWith unsigned signature answer
@@ -98,7 +108,9 @@ pub record IsSentBy (unsigned : UnsignedPresentation) (good : Meaning) (answer :
 -- they are too long with this signature, or there is no memory
 abbrev pub IsUnsentWith : UnsignedPresentation → List ℕ → PresentError → Type 0
 IsUnsentWith unsigned signature Memory = Unit {0}
-IsUnsentWith unsigned signature TooLong = (answer : Parts) × IsSentWith unsigned signature answer × (compact_max < length (compact answer))
+IsUnsentWith unsigned signature TooLong =
+    (answer : Parts) × IsSentWith unsigned signature answer
+    × (compact_max < length (compact answer))
 IsUnsentWith unsigned signature _ = ⊥
 
 -- its texts are words, so that what is presented is well formed

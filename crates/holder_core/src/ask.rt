@@ -24,7 +24,8 @@ pub struct BindingAsk {
     pub nonce: TextBox,
 }
 
-/// What is asked of a holder, where the caller checks the issuer's signature and makes the holder's.
+/// What is asked of a holder, where the caller checks the issuer's signature
+/// and makes the holder's.
 #[derive(Drop)]
 pub struct CallerAsk {
     /// The algorithms of the issuer's signatures that the caller checks, of which see
@@ -41,8 +42,9 @@ pub struct CallerAsk {
 pub struct CallerBinding {
     /// The algorithm of the signature, by its name in RFC 7518 section 3.1 or RFC 8037 section 3.1.
     pub alg: TextBox,
-    /// The name of the holder's key, where the claim `cnf` has to tell one (RFC 7800 section 3.4). Where the claim has
-    /// the key itself, or its digest, there is none, and the caller finds its key by the payload.
+    /// The name of the holder's key, where the claim `cnf` has to tell one (RFC
+    /// 7800 section 3.4). Where the claim has the key itself, or its digest,
+    /// there is none, and the caller finds its key by the payload.
     pub kid: Option<TextBox>,
     /// The verifier.
     pub aud: TextBox,

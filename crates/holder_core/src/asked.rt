@@ -1,4 +1,5 @@
-// What is asked of a holder, whoever may have signed the token, and whoever signs the key binding token.
+// What is asked of a holder, whoever may have signed the token, and whoever
+// signs the key binding token.
 ghost use Rattle.std.specs.Prelude.{◌≡◌, map, option_map};
 ghost use Rattle.std.specs.Option.{option_copied};
 ghost use Rattle.hmac_sign.specs.Algs.{algs as known, alg_text};
@@ -19,7 +20,8 @@ pub(crate) struct Asked<'a> {
     pub(crate) binding: Option<AskedBinding<'a>>,
 }
 
-// What a key binding token is to say, and the name of the holder's key, where the claim `cnf` has to tell one.
+// What a key binding token is to say, and the name of the holder's key, where
+// the claim `cnf` has to tell one.
 #[derive(Clone, Copy)]
 pub(crate) struct AskedBinding<'a> {
     pub(crate) kid: Option<&'a TextBox>,
@@ -34,7 +36,11 @@ impl<'a> Model for Asked<'a> {
 
     ghost Value = { Seen };
 
-    ghost view = { λ a. record { rules = a.rules; want = a.want.now; binding = option_map binding_seen a.binding } };
+    ghost view = { λ a. record {
+      rules = a.rules;
+      want = a.want.now;
+      binding = option_map binding_seen a.binding;
+    } };
 }
 
 impl<'a> AskedBinding<'a> {

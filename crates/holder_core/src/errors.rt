@@ -4,19 +4,23 @@ use verifier_core::VerifyError;
 
 /// Why nothing is presented.
 ///
-/// But for `Memory` these are judged in the order in which they stand here, and the first that applies is answered.
-/// Conditions 1 to 3 of `Token` stand before `HasBinding`, and the others behind it.
+/// But for `Memory` these are judged in the order in which they stand here, and
+/// the first that applies is answered. Conditions 1 to 3 of `Token` stand
+/// before `HasBinding`, and the others behind it.
 #[derive(Clone, Copy, Debug, PartialEq, Eq)]
 pub enum PresentError {
     /// There was no memory for the answer.
     Memory,
-    /// The token fails this condition: one of 1 to 3, 5 to 7 and 9 to 21, the lowest, at its least place.
+    /// The token fails this condition: one of 1 to 3, 5 to 7 and 9 to 21, the
+    /// lowest, at its least place.
     Token(Fault),
     /// 71: the token has a key binding token already.
     HasBinding,
-    /// 72: this wanted path, counted from 0, leads nowhere in the processed payload, and no earlier one does.
+    /// 72: this wanted path, counted from 0, leads nowhere in the processed
+    /// payload, and no earlier one does.
     NoSuchPlace(usize),
-    /// 73: the rule of the holder refused the place of this disclosure, and of no smaller one that is chosen.
+    /// 73: the rule of the holder refused the place of this disclosure, and of
+    /// no smaller one that is chosen.
     ConsentRefused(u32),
     /// 74: a key binding token is asked for, and what is shown does not name the key of the ask.
     BindingKeyDiffers,

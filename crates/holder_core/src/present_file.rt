@@ -22,8 +22,8 @@ const FIELDS: [Field; 4] = [Field::Keys, Field::Want, Field::Never, Field::Bindi
 // The members of the object that asks for a key binding token: no more, and no fewer.
 const MEMBERS: usize = 4;
 
-/// What a present order says: what is asked, the places that are never shown, and the key of the holder, which is there
-/// exactly where a key binding token is asked for.
+/// What a present order says: what is asked, the places that are never shown, and the key of the
+/// holder, which is there exactly where a key binding token is asked for.
 #[derive(Drop)]
 pub struct PresentFile {
     pub ask: Ask,
@@ -39,8 +39,10 @@ struct BindingOrder {
 }
 
 fn text_in(alloc: Global, members: &TreeMap, name: &str) -> Result<Option<TextBox>, NoMemory>
-    ensures text { IfOk result (λ text. IfSome text (Says IsText (member_named members.now name.now))) }
-    ensures none { IfOk result (λ text. IfNone text ((s : Text) → Says IsText (member_named members.now name.now) s → ⊥)) }
+    ensures text { IfOk result
+        (λ text. IfSome text (Says IsText (member_named members.now name.now))) }
+    ensures none { IfOk result
+        (λ text. IfNone text ((s : Text) → Says IsText (member_named members.now name.now) s → ⊥)) }
 {
     let Some(Tree::Text(text)) = members.get(name) else {
         return Ok(None);
@@ -49,8 +51,11 @@ fn text_in(alloc: Global, members: &TreeMap, name: &str) -> Result<Option<TextBo
 }
 
 fn key_in(alloc: Global, members: &TreeMap) -> Result<Option<Hs256Key>, NoMemory>
-    ensures key { IfOk result (λ key. IfSome key (Says IsKeyText (member_named members.now (codes "key")))) }
-    ensures none { IfOk result (λ key. IfNone key ((k : List ℕ) → Says IsKeyText (member_named members.now (codes "key")) k → ⊥)) }
+    ensures key { IfOk result
+        (λ key. IfSome key (Says IsKeyText (member_named members.now (codes "key")))) }
+    ensures none { IfOk result
+        (λ key. IfNone key
+        ((k : List ℕ) → Says IsKeyText (member_named members.now (codes "key")) k → ⊥)) }
 {
     let Some(tree) = members.get("key") else {
         return Ok(None);
@@ -59,8 +64,10 @@ fn key_in(alloc: Global, members: &TreeMap) -> Result<Option<Hs256Key>, NoMemory
 }
 
 fn binding_of(alloc: Global, tree: &Tree) -> Result<Option<BindingOrder>, NoMemory>
-    ensures binding { IfOk result (λ said. IfSome said (λ order. IsBindingOrder (tree_of tree.now) (order.ask, order.key))) }
-    ensures none { IfOk result (λ said. IfNone said (HasValue IsBindingOrder (tree_of tree.now) → ⊥)) }
+    ensures binding { IfOk result
+        (λ said. IfSome said (λ order. IsBindingOrder (tree_of tree.now) (order.ask, order.key))) }
+    ensures none { IfOk result
+        (λ said. IfNone said (HasValue IsBindingOrder (tree_of tree.now) → ⊥)) }
 {
     let Tree::Object(members) = tree else {
         return Ok(None);
@@ -87,7 +94,9 @@ fn binding_of(alloc: Global, tree: &Tree) -> Result<Option<BindingOrder>, NoMemo
 }
 
 fn binding_member(alloc: Global, members: &TreeMap) -> Result<Option<BindingOrder>, FileFault>
-    ensures ok { IfOk result (λ said. MaySay IsBindingOrder (found members.now Binding) (option_map (λ order. (order.ask, order.key)) said)) }
+    ensures ok { IfOk result
+        (λ said. MaySay IsBindingOrder (found members.now Binding)
+        (option_map (λ order. (order.ask, order.key)) said)) }
     ensures refused { IfErr result (IsMemberRefused (optional Binding IsBindingOrder) members.now) }
 {
     let Some(tree) = members.get(Field::Binding.word()) else {
@@ -99,12 +108,13 @@ fn binding_member(alloc: Global, members: &TreeMap) -> Result<Option<BindingOrde
     }
 }
 
-/// The present order that a file says: a JSON object whose one member that it must have is `keys`, the key set of the
-/// issuers.
+/// The present order that a file says: a JSON object whose one member that it
+/// must have is `keys`, the key set of the issuers.
 ///
-/// `want` and `never` are lists of JSON Pointers; where they are missing they are empty. `binding` is an object of just
-/// `key`, the base64url text of at least 32 bytes, `kid`, a text, and `aud` and `nonce`, texts of at most 256 bytes;
-/// where it is missing, no key binding token is asked for. Another member is a fault.
+/// `want` and `never` are lists of JSON Pointers; where they are missing they are
+/// empty. `binding` is an object of just `key`, the base64url text of at least 32
+/// bytes, `kid`, a text, and `aud` and `nonce`, texts of at most 256 bytes; where
+/// it is missing, no key binding token is asked for. Another member is a fault.
 #[tactic(auto, using(crate::proofs::PresentFaults::refused_at))]
 pub fn read_present(alloc: Global, bytes: &[u8]) -> Result<PresentFile, FileFault>
     ensures ok { IfOk result (IsPresentFile bytes.now) }

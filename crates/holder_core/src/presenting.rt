@@ -39,12 +39,14 @@ use selection_core::{AllowError, ChooseError, Consent, allow, choose};
 use std::alloc::Global;
 use verifier_core::{Content, Rules, VerifyError};
 
-/// Presents a token as it comes from a file, RFC 9901 section 7.2: the issuer's JWT, the disclosures that lead to the
-/// wanted places in their order, and a key binding token of a moment in seconds since 1970 where one is asked for.
+/// Presents a token as it comes from a file, RFC 9901 section 7.2: the issuer's JWT, the
+/// disclosures that lead to the wanted places in their order, and a key binding token of a moment
+/// in seconds since 1970 where one is asked for.
 ///
-/// The token is checked by the conditions 5 to 21, with each algorithm allowed that is known, and whatever its type is.
-/// The rule is asked for the place of each disclosure that is chosen. The signer is asked once, when all else is there,
-/// and not at all where no key binding token is asked for. `steps` counts the look-ups of digests.
+/// The token is checked by the conditions 5 to 21, with each algorithm allowed that is known, and
+/// whatever its type is. The rule is asked for the place of each disclosure that is chosen. The
+/// signer is asked once, when all else is there, and not at all where no key binding token is asked
+/// for. `steps` counts the look-ups of digests.
 pub fn present<S: Signer, F: Fn(&Path) -> bool>(
     alloc: Global,
     text: &[u8],
@@ -55,11 +57,16 @@ pub fn present<S: Signer, F: Fn(&Path) -> bool>(
     steps: &mut Steps,
 ) -> Result<Parts, PresentError>
     requires callable { F.IsAlwaysCallable consent.now }
-    ensures presented { IfOk result (IsPresented F.Fn consent.now text.now (asked_by ask.now) (S.alg_name_of signer.old) (S.good signer.old) now) }
+    ensures presented { IfOk result
+        (IsPresented F.Fn consent.now text.now (asked_by ask.now) (S.alg_name_of signer.old)
+        (S.good signer.old) now) }
     ensures words { IfOk result AreWords }
     ensures short { IfOk result (λ answer. length (compact_text answer) ≤ compact_max) }
-    ensures refused { IfErr result (IsNotPresented F.Fn consent.now text.now (asked_by ask.now) (S.alg_name_of signer.old) (S.good signer.old) now) }
-    ensures failed { IsErrOf result PresentError.SignFailed → Rose (S.faults signer.old) (S.faults signer.new) }
+    ensures refused { IfErr result
+        (IsNotPresented F.Fn consent.now text.now (asked_by ask.now) (S.alg_name_of signer.old)
+        (S.good signer.old) now) }
+    ensures failed { IsErrOf result PresentError.SignFailed
+        → Rose (S.faults signer.old) (S.faults signer.new) }
 
     // what stays
     ensures unasked { ask.now.binding ≡ None → signer.new ≡ signer.old }
@@ -68,10 +75,12 @@ pub fn present<S: Signer, F: Fn(&Path) -> bool>(
     ensures later { S.faults signer.old ≤ S.faults signer.new }
 
     // the look-ups
-    ensures counted { IfOk result (λ _. (token : SeenToken) × IsToken text.now token × IsCounted token steps.old steps.new) }
+    ensures counted { IfOk result
+        (λ _. (token : SeenToken) × IsToken text.now token × IsCounted token steps.old steps.new) }
     ensures within { IsReadWithin text.now steps.old steps.new }
     ensures uncounted { IsUncounted (PresentFails text.now (asked_by ask.now)) steps.old steps.new }
-    ensures unopened { (token : SeenToken) → IsToken text.now token → token.parts.binding ≢ None → steps.new ≡ steps.old }
+    ensures unopened { (token : SeenToken) → IsToken text.now token → token.parts.binding ≢ None
+        → steps.new ≡ steps.old }
 {
     let token = match read_unbound(alloc, text) {
         Ok(token) => token,
@@ -112,18 +121,24 @@ fn present_token<S: Signer, F: Fn(&Path) -> bool>(
     requires words { AreWords token.now.parts }
     requires unbound { token.now.parts.binding ≡ None }
     requires callable { F.IsAlwaysCallable consent.now }
-    ensures answer { IfOk result (IsAnswer F.Fn consent.now token.now (asked_by ask.now) (S.alg_name_of signer.old) (S.good signer.old) now) }
+    ensures answer { IfOk result
+        (IsAnswer F.Fn consent.now token.now (asked_by ask.now) (S.alg_name_of signer.old)
+        (S.good signer.old) now) }
     ensures words { IfOk result AreWords }
     ensures short { IfOk result (λ answer. length (compact_text answer) ≤ compact_max) }
-    ensures refused { IfErr result (IsNoAnswer F.Fn consent.now token.now (asked_by ask.now) (S.alg_name_of signer.old) (S.good signer.old) now) }
-    ensures failed { IsErrOf result PresentError.SignFailed → Rose (S.faults signer.old) (S.faults signer.new) }
+    ensures refused { IfErr result
+        (IsNoAnswer F.Fn consent.now token.now (asked_by ask.now) (S.alg_name_of signer.old)
+        (S.good signer.old) now) }
+    ensures failed { IsErrOf result PresentError.SignFailed
+        → Rose (S.faults signer.old) (S.faults signer.new) }
     ensures unasked { ask.now.binding ≡ None → signer.new ≡ signer.old }
     ensures same_good { Agree (S.good signer.new) (S.good signer.old) }
     ensures same_alg { S.alg_name_of signer.new ≡ S.alg_name_of signer.old }
     ensures later { S.faults signer.old ≤ S.faults signer.new }
     ensures counted { IfOk result (λ _. IsCounted token.now steps.old steps.new) }
     ensures within { IsCountedWithin token.now steps.old steps.new }
-    ensures uncounted { IsUncounted (TokenFails token.now (held_rules ask.now.keys)) steps.old steps.new }
+    ensures uncounted { IsUncounted (TokenFails token.now (held_rules ask.now.keys)) steps.old
+        steps.new }
 {
     let algs = match alg_names(alloc) {
         Ok(algs) => algs,
@@ -137,15 +152,16 @@ fn present_token<S: Signer, F: Fn(&Path) -> bool>(
     }
 }
 
-// The token with the disclosures that are asked for and no key binding token, and what they show, where one is asked
-// for.
+// The token with the disclosures that are asked for and no key binding token,
+// and what they show, where one is asked for.
 #[derive(Drop)]
 pub(crate) struct Unbound {
     pub(crate) parts: Parts,
     pub(crate) payload: Option<Tree>,
 }
 
-// The token with the disclosures that are asked for, if nothing is refused, and the algorithm of its digests.
+// The token with the disclosures that are asked for, if nothing is refused, and
+// the algorithm of its digests.
 pub(crate) fn ready_parts<F: Fn(&Path) -> bool>(
     alloc: Global,
     token: &TokenView<'_>,
@@ -213,7 +229,8 @@ fn choose_parts<F: Fn(&Path) -> bool>(
     requires words { AreWords token.now.parts }
     requires held { IsHeld token.now asked.now (marked_of marked.now) }
     requires callable { F.IsAlwaysCallable consent.now }
-    ensures ready { IfOk result (IsReady F.Fn consent.now token.now asked.now (marked_of marked.now)) }
+    ensures ready { IfOk result
+        (IsReady F.Fn consent.now token.now asked.now (marked_of marked.now)) }
     ensures words { IfOk result (λ unbound. AreWords unbound.parts) }
     ensures refused { IfErr result (IsUnready F.Fn consent.now token.now asked.now) }
 {
@@ -238,14 +255,16 @@ fn read_signed<'a>(
 ) -> Result<Content, VerifyError>
     requires few { length token.now.parts.disclosures < 2 ^ 32 - 1 }
     ensures content { IfOk result (IsContent token.now (asked_rules keys.now algs.now None)) }
-    ensures refused { IfErr result (λ e. OnFault e (IsLowest (TokenFails token.now (asked_rules keys.now algs.now None)))) }
+    ensures refused { IfErr result
+        (λ e. OnFault e (IsLowest (TokenFails token.now (asked_rules keys.now algs.now None)))) }
     ensures unopened { IfErr result (λ e. OnFault e IsUnopened) }
 {
     Content::read(alloc, token, &Rules::of_keys(keys, algs, None))
 }
 
-/// Judges a token that is held by the conditions 5 to 13, but 8, RFC 9901 section 7.3: it may be signed by one of the
-/// keys with any algorithm that is known, whatever its type is. The first condition that fails is answered.
+/// Judges a token that is held by the conditions 5 to 13, but 8, RFC 9901
+/// section 7.3: it may be signed by one of the keys with any algorithm that is
+/// known, whatever its type is. The first condition that fails is answered.
 pub fn check_held(
     alloc: Global,
     token: &TokenView<'_>,
@@ -260,7 +279,8 @@ pub fn check_held(
     Ok(read_signed(alloc, token, keys, &names)?)
 }
 
-// The disclosures that lead to the wanted places, if each place is there and the rule allows all that is chosen.
+// The disclosures that lead to the wanted places, if each place is there and
+// the rule allows all that is chosen.
 fn choose_allowed<F: Fn(&Path) -> bool>(
     alloc: Global,
     marked: &Marked,
@@ -293,9 +313,15 @@ fn shown_payload(
     chosen: &ChosenSet,
 ) -> Result<Option<Tree>, PresentError>
     requires depth { depth_of (strip (marked_of marked.now)) ≤ json_depth_max }
-    ensures named { OnOk result (NamesKey (option_map binding_seen binding.entry) (strip (pruned_by (marked_of marked.now) (has chosen.now)))) }
-    ensures shown { IfOk result (IsShown (option_map binding_seen binding.entry) (strip (pruned_by (marked_of marked.now) (has chosen.now)))) }
-    ensures refused { IfErr result (IsOtherKey (option_map binding_seen binding.entry) (strip (pruned_by (marked_of marked.now) (has chosen.now)))) }
+    ensures named { OnOk result
+        (NamesKey (option_map binding_seen binding.entry)
+        (strip (pruned_by (marked_of marked.now) (has chosen.now)))) }
+    ensures shown { IfOk result
+        (IsShown (option_map binding_seen binding.entry)
+        (strip (pruned_by (marked_of marked.now) (has chosen.now)))) }
+    ensures refused { IfErr result
+        (IsOtherKey (option_map binding_seen binding.entry)
+        (strip (pruned_by (marked_of marked.now) (has chosen.now)))) }
 {
     if binding.is_none() {
         return Ok(None);
@@ -313,8 +339,10 @@ pub(crate) fn check_named(
     binding: Option<AskedBinding<'_>>,
     payload: &Tree,
 ) -> Result<(), PresentError>
-    ensures named { OnOk result (NamesKey (option_map binding_seen binding.entry) (tree_of payload.now)) }
-    ensures refused { IfErr result (IsOtherKey (option_map binding_seen binding.entry) (tree_of payload.now)) }
+    ensures named { OnOk result
+        (NamesKey (option_map binding_seen binding.entry) (tree_of payload.now)) }
+    ensures refused { IfErr result
+        (IsOtherKey (option_map binding_seen binding.entry) (tree_of payload.now)) }
 {
     let Some(ask) = binding else {
         return Ok(());
@@ -331,7 +359,8 @@ pub(crate) fn check_named(
     Ok(())
 }
 
-/// The token of the issuer with the chosen disclosures alone, in their order, and no key binding token.
+/// The token of the issuer with the chosen disclosures alone, in their order,
+/// and no key binding token.
 pub fn picked_parts(
     alloc: Global,
     token: &TokenView<'_>,
@@ -339,7 +368,8 @@ pub fn picked_parts(
 ) -> Result<Parts, NoMemory>
     requires few { length token.now.parts.disclosures < 2 ^ 32 - 1 }
     ensures signed { IfOk result (λ parts. parts.signed ≡ token.now.parts.signed) }
-    ensures disclosures { IfOk result (λ parts. parts.disclosures ≡ picked (has chosen.now) token.now.parts.disclosures) }
+    ensures disclosures { IfOk result
+        (λ parts. parts.disclosures ≡ picked (has chosen.now) token.now.parts.disclosures) }
     ensures unbound { IfOk result (λ parts. parts.binding ≡ None) }
     ensures words { AreWords token.now.parts → IfOk result AreWords }
 {

@@ -33,8 +33,8 @@ fn place(error: &PresentError) -> Place
     }
 }
 
-/// The line that tells why nothing is presented, without its line end: of a condition that the token fails, or of a
-/// refusal of 71 to 75. What is no refusal has no line.
+/// The line that tells why nothing is presented, without its line end: of a condition that the
+/// token fails, or of a refusal of 71 to 75. What is no refusal has no line.
 pub fn refusal_line(alloc: Global, error: &PresentError) -> Result<TextBox, NoMemory>
     ensures { IfOk result (λ line. line ≡ present_refusal_text error.now) }
 {

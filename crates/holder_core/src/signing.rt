@@ -41,7 +41,8 @@ pub struct UnsignedPresentation {
     pub parts: Parts,
     /// What is to be signed: the key binding token that goes with them.
     pub binding: UnsignedJwt,
-    /// What the disclosures show, in which the claim `cnf` tells the holder's key (RFC 7800 section 3).
+    /// What the disclosures show, in which the claim `cnf` tells the holder's
+    /// key (RFC 7800 section 3).
     pub payload: Tree,
 }
 
@@ -67,7 +68,8 @@ pub(crate) enum Unsigned {
 fn short_parts(parts: Parts) -> Result<Parts, PresentError>
     ensures same { IfOk result (λ answer. answer ≡ parts) }
     ensures short { IfOk result IsShort }
-    ensures long { IfErr result (λ e. (e ≡ PresentError.TooLong) × (compact_max < length (compact_text parts))) }
+    ensures long { IfErr result
+        (λ e. (e ≡ PresentError.TooLong) × (compact_max < length (compact_text parts))) }
 {
     if is_longer_than(&parts, COMPACT_MAX) {
         return Err(PresentError::TooLong);
@@ -79,7 +81,9 @@ fn short_parts(parts: Parts) -> Result<Parts, PresentError>
 fn bound_parts(unbound: Parts, token: JwtParts) -> Result<Parts, PresentError>
     ensures bound { IfOk result (IsWithBinding unbound token) }
     ensures short { IfOk result IsShort }
-    ensures long { IfErr result (λ e. (e ≡ PresentError.TooLong) × (answer : SeenParts) × IsWithBinding unbound token answer × (compact_max < length (compact_text answer))) }
+    ensures long { IfErr result
+        (λ e. (e ≡ PresentError.TooLong) × (answer : SeenParts) × IsWithBinding unbound token answer
+        × (compact_max < length (compact_text answer))) }
 {
     short_parts(Parts {
         signed: unbound.signed,
@@ -89,7 +93,8 @@ fn bound_parts(unbound: Parts, token: JwtParts) -> Result<Parts, PresentError>
 }
 
 impl UnsignedPresentation {
-    /// What is presented, with these bytes as the signature of the key binding token, whoever made them.
+    /// What is presented, with these bytes as the signature of the key binding
+    /// token, whoever made them.
     pub fn signed(self, alloc: Global, signature: &[u8]) -> Result<Parts, PresentError>
         ensures sent { IfOk result (IsSentWith self signature.now) }
         ensures words { AreUnsignedWords self → 0 < length signature.now → IfOk result AreWords }
@@ -113,7 +118,8 @@ impl UnsignedPresentation {
         ensures words { AreUnsignedWords self → IfOk result AreWords }
         ensures short { IfOk result IsShort }
         ensures refused { IfErr result (IsUnsent self (S.good signer.old)) }
-        ensures failed { IsErrOf result PresentError.SignFailed → Rose (S.faults signer.old) (S.faults signer.new) }
+        ensures failed { IsErrOf result PresentError.SignFailed
+            → Rose (S.faults signer.old) (S.faults signer.new) }
         ensures same_good { Agree (S.good signer.new) (S.good signer.old) }
         ensures same_alg { S.alg_name_of signer.new ≡ S.alg_name_of signer.old }
         ensures later { S.faults signer.old ≤ S.faults signer.new }
@@ -127,7 +133,8 @@ impl UnsignedPresentation {
     }
 }
 
-// What is presented of these parts as they are, or once the key binding token that is asked for is signed.
+// What is presented of these parts as they are, or once the key binding token
+// that is asked for is signed.
 fn unsigned_of(
     alloc: Global,
     unbound: Unbound,
@@ -138,10 +145,12 @@ fn unsigned_of(
 ) -> Result<Unsigned, PresentError>
     requires words { AreWords unbound.parts }
     requires shown { is_some binding ≡ true → is_some unbound.payload ≡ true }
-    ensures unsigned { IfOk result (IsUnsignedOf (option_map binding_seen binding.entry) alg.now hash now unbound) }
+    ensures unsigned { IfOk result
+        (IsUnsignedOf (option_map binding_seen binding.entry) alg.now hash now unbound) }
     ensures words { IfOk result (λ unsigned. OnUnsigned unsigned AreWords AreUnsignedWords) }
     ensures short { IfOk result (λ unsigned. OnUnsigned unsigned IsShort (λ _. Unit)) }
-    ensures long { IfErr result (IsLongAlone (option_map binding_seen binding.entry) unbound.parts) }
+    ensures long { IfErr result
+        (IsLongAlone (option_map binding_seen binding.entry) unbound.parts) }
 {
     let Unbound { parts, payload } = unbound;
     let Some(ask) = binding else {
@@ -163,7 +172,8 @@ fn unsigned_of(
     }))
 }
 
-// What is presented of a token that has no key binding token, as it is or once it is signed with this algorithm.
+// What is presented of a token that has no key binding token, as it is or once
+// it is signed with this algorithm.
 pub(crate) fn unsigned_parts<F: Fn(&Path) -> bool>(
     alloc: Global,
     token: &TokenView<'_>,
@@ -180,7 +190,8 @@ pub(crate) fn unsigned_parts<F: Fn(&Path) -> bool>(
     ensures unsigned { IfOk result (IsUnsigned F.Fn consent.now token.now asked.now alg.now now) }
     ensures words { IfOk result (λ unsigned. OnUnsigned unsigned AreWords AreUnsignedWords) }
     ensures short { IfOk result (λ unsigned. OnUnsigned unsigned IsShort (λ _. Unit)) }
-    ensures refused { IfErr result (IsNoAnswer F.Fn consent.now token.now asked.now alg.now none_good now) }
+    ensures refused { IfErr result
+        (IsNoAnswer F.Fn consent.now token.now asked.now alg.now none_good now) }
     ensures no_signer { IsErrOf result PresentError.SignFailed → ⊥ }
 
     // the issuer's signature
@@ -199,8 +210,8 @@ pub(crate) fn unsigned_parts<F: Fn(&Path) -> bool>(
     unsigned_of(alloc, unbound, hash, asked.binding, alg, now)
 }
 
-// Asks for the issuer's signature, where nothing was said of it and no condition before it fails; else the token is
-// refused.
+// Asks for the issuer's signature, where nothing was said of it and no
+// condition before it fails; else the token is refused.
 fn ask_or_refuse(
     alloc: Global,
     token: &TokenView<'_>,
@@ -209,7 +220,8 @@ fn ask_or_refuse(
     error: PresentError,
 ) -> Result<Presentation, PresentError>
     requires unbound { token.now.parts.binding ≡ None }
-    requires lowest { OnTokenFault error (IsLowest (TokenFails token.now (caller_rules ask.now.algs answer))) }
+    requires lowest { OnTokenFault error
+        (IsLowest (TokenFails token.now (caller_rules ask.now.algs answer))) }
     requires early { IsSignedOrEarly token.now (caller_rules ask.now.algs answer) error }
     ensures asks { IfOk result (AsksOf token.now ask.now answer) }
     ensures asked { answer ≡ None → IsIssuerAsked ask.now token.now → AsksOrNoMemory result }
@@ -228,7 +240,8 @@ fn ask_or_refuse(
     }
 }
 
-// The name of the algorithm of the holder's signature. Where none is to be made, it is not looked at.
+// The name of the algorithm of the holder's signature. Where none is to be
+// made, it is not looked at.
 fn holder_alg(ask: &CallerAsk) -> &str
     ensures { result.now ≡ alg_asked ask.now.binding }
 {
@@ -254,11 +267,19 @@ fn present_token<F: Fn(&Path) -> bool>(
     requires callable { F.IsAlwaysCallable consent.now }
     ensures asks { IfOk result (λ p. OnAsksIssuer p (λ _. AsksOf token.now ask.now answer p)) }
     ensures asked { answer ≡ None → IsIssuerAsked ask.now token.now → AsksOrNoMemory result }
-    ensures to_sign { IfOk result (λ p. OnToSign p (IsToSign F.Fn consent.now token.now (asked_by_caller ask.now answer) (alg_asked ask.now.binding) now)) }
-    ensures presented { IfOk result (λ p. OnPresented p (IsAnswer F.Fn consent.now token.now (asked_by_caller ask.now answer) (alg_asked ask.now.binding) none_good now)) }
+    ensures to_sign { IfOk result
+        (λ p. OnToSign p
+        (IsToSign F.Fn consent.now token.now (asked_by_caller ask.now answer)
+        (alg_asked ask.now.binding) now)) }
+    ensures presented { IfOk result
+        (λ p. OnPresented p
+        (IsAnswer F.Fn consent.now token.now (asked_by_caller ask.now answer)
+        (alg_asked ask.now.binding) none_good now)) }
     ensures words { IfOk result (λ p. OnToSign p AreUnsignedWords × OnPresented p AreWords) }
     ensures short { IfOk result (λ p. OnPresented p IsShort) }
-    ensures refused { IfErr result (IsNoAnswer F.Fn consent.now token.now (asked_by_caller ask.now answer) (alg_asked ask.now.binding) none_good now) }
+    ensures refused { IfErr result
+        (IsNoAnswer F.Fn consent.now token.now (asked_by_caller ask.now answer)
+        (alg_asked ask.now.binding) none_good now) }
     ensures no_signer { IsErrOf result PresentError.SignFailed → ⊥ }
     ensures within { IsCountedWithin token.now steps.old steps.new }
 {
@@ -270,17 +291,19 @@ fn present_token<F: Fn(&Path) -> bool>(
     }
 }
 
-/// Presents a token as [`present`](crate::present) does, but without keys: the caller checks the issuer's signature and
-/// makes the holder's, as where keys are kept in hardware, or are of elliptic curves (RFC 7518 section 3.4, RFC 8037).
+/// Presents a token as [`present`](crate::present) does, but without keys: the caller checks the
+/// issuer's signature and makes the holder's, as where keys are kept in hardware, or are of
+/// elliptic curves (RFC 7518 section 3.4, RFC 8037).
 ///
-/// The caller calls with no answer, and again with what it found out where it is asked for the issuer's signature. Each
-/// call judges the text anew and keeps nothing. The caller answers for its word: it has checked the signature over the
-/// bytes of the question and no others, with a key that serves the algorithm that the header names, and that it trusts.
-/// What it says unasked is not looked at.
+/// The caller calls with no answer, and again with what it found out where it is
+/// asked for the issuer's signature. Each call judges the text anew and keeps
+/// nothing. The caller answers for its word: it has checked the signature over the
+/// bytes of the question and no others, with a key that serves the algorithm that
+/// the header names, and that it trusts. What it says unasked is not looked at.
 ///
-/// Where a key binding token is asked for, the caller signs it with the holder's key, which the claim `cnf` of the
-/// payload tells, and [`UnsignedPresentation::signed`] puts the signature in. Of the key only the name is compared
-/// here, where the ask has one.
+/// Where a key binding token is asked for, the caller signs it with the holder's key, which the
+/// claim `cnf` of the payload tells, and [`UnsignedPresentation::signed`] puts the signature in. Of
+/// the key only the name is compared here, where the ask has one.
 pub fn present_unsigned<F: Fn(&Path) -> bool>(
     alloc: Global,
     text: &[u8],
@@ -292,12 +315,21 @@ pub fn present_unsigned<F: Fn(&Path) -> bool>(
 ) -> Result<Presentation, PresentError>
     requires callable { F.IsAlwaysCallable consent.now }
     ensures asks_issuer { IfOk result (λ p. OnAsksIssuer p (AsksIssuer text.now ask.now answer)) }
-    ensures asked { answer ≡ None → (token : SeenToken) → IsToken text.now token → IsIssuerAsked ask.now token → AsksOrNoMemory result }
-    ensures to_sign { IfOk result (λ p. OnToSign p (IsToPresent F.Fn consent.now text.now (asked_by_caller ask.now answer) (alg_asked ask.now.binding) now)) }
-    ensures presented { IfOk result (λ p. OnPresented p (IsPresented F.Fn consent.now text.now (asked_by_caller ask.now answer) (alg_asked ask.now.binding) none_good now)) }
+    ensures asked { answer ≡ None → (token : SeenToken) → IsToken text.now token
+        → IsIssuerAsked ask.now token → AsksOrNoMemory result }
+    ensures to_sign { IfOk result
+        (λ p. OnToSign p
+        (IsToPresent F.Fn consent.now text.now (asked_by_caller ask.now answer)
+        (alg_asked ask.now.binding) now)) }
+    ensures presented { IfOk result
+        (λ p. OnPresented p
+        (IsPresented F.Fn consent.now text.now (asked_by_caller ask.now answer)
+        (alg_asked ask.now.binding) none_good now)) }
     ensures words { IfOk result (λ p. OnToSign p AreUnsignedWords × OnPresented p AreWords) }
     ensures short { IfOk result (λ p. OnPresented p IsShort) }
-    ensures refused { IfErr result (IsNotPresented F.Fn consent.now text.now (asked_by_caller ask.now answer) (alg_asked ask.now.binding) none_good now) }
+    ensures refused { IfErr result
+        (IsNotPresented F.Fn consent.now text.now (asked_by_caller ask.now answer)
+        (alg_asked ask.now.binding) none_good now) }
     ensures no_signer { IsErrOf result PresentError.SignFailed → ⊥ }
 
     // the look-ups

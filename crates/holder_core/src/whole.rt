@@ -1,5 +1,5 @@
-// What is presented of a token without disclosures: nothing of its payload is marked, so no mark is built or chosen. The
-// common way would answer the same, at the cost of a marked tree.
+// What is presented of a token without disclosures: nothing of its payload is marked, so no mark is
+// built or chosen. The common way would answer the same, at the cost of a marked tree.
 ghost use Rattle.std.specs.Prelude.{◌≡◌, ◌<◌, ◌-◌, ◌^◌, None, length, IfOk, IfErr, IfSome};
 ghost use Rattle.claim_tree.specs.Lists.{IsLeast, AtNone};
 ghost use Rattle.claim_tree.specs.View.{tree_of};

@@ -21,8 +21,12 @@ abbrev mutual
 
   pub ElementsClose : ℕ → MarkedElements → Type 0
   ElementsClose n no_marked_elements = Unit {0}
-  ElementsClose n (marked_element k t es) = ClosesFrom n t × HasNumber k (n + weight one t) × ElementsClose (n + (mark_weight one k + weight one t)) es
+  ElementsClose n (marked_element k t es) =
+      ClosesFrom n t × HasNumber k (n + weight one t)
+      × ElementsClose (n + (mark_weight one k + weight one t)) es
 
   pub MembersClose : ℕ → MarkedMembers → Type 0
   MembersClose n no_marked_members = Unit {0}
-  MembersClose n (marked_member name k t ms) = ClosesFrom n t × HasNumber k (n + weight one t) × MembersClose (n + (mark_weight one k + weight one t)) ms
+  MembersClose n (marked_member name k t ms) =
+      ClosesFrom n t × HasNumber k (n + weight one t)
+      × MembersClose (n + (mark_weight one k + weight one t)) ms

@@ -17,9 +17,12 @@ decoys_of o = decoy_paths o.decoys
 abbrev pub earlier : ℕ → Path → List Path → ℕ
 earlier zero at decoys = 0
 earlier (suc many) at [] = 0
-earlier (suc many) at (other ∷ decoys) = (if same_path other at then 1 else 0) + earlier many at decoys
+earlier (suc many) at (other ∷ decoys) =
+    (if same_path other at then 1 else 0) + earlier many at decoys
 
--- the digests of the decoys with this place, where dg has the digests, and the first decoy has the number k
+-- the digests of the decoys with this place, where dg has the digests, and the
+-- first decoy has the number k
 abbrev pub decoys_at : (ℕ → Text) → ℕ → List Path → Path → List Text
 decoys_at dg k [] at = []
-decoys_at dg k (other ∷ decoys) at = (if same_path other at then dg k ∷ [] else []) ++ decoys_at dg (suc k) decoys at
+decoys_at dg k (other ∷ decoys) at =
+    (if same_path other at then dg k ∷ [] else []) ++ decoys_at dg (suc k) decoys at

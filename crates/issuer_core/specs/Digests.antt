@@ -1,4 +1,5 @@
--- The digests of an issued token, RFC 9901 section 4.2.3: those of its disclosures, then those of its decoys.
+-- The digests of an issued token, RFC 9901 section 4.2.3: those of its
+-- disclosures, then those of its decoys.
 use Rattle.std.specs.Prelude.{ℕ, suc, List, [], ◌∷◌, ◌++◌, length, map, Option}
 use Rattle.std.specs.List.{range_with_len}
 use Rattle.claim_tree.specs.Tree.{Text, Tree}
@@ -10,8 +11,8 @@ use Rattle.rebuild_core.specs.Reached.{given_digests}
 use Rattle.issuer_core.specs.Order.{Order}
 use Rattle.issuer_core.specs.Decoys.{decoys_of}
 
--- how texts are made: that of a disclosure with its number, its name or none, and its value; that of a decoy with its number;
--- and the digest of a text by a hash
+-- how texts are made: that of a disclosure with its number, its name or none, and its value; that
+-- of a decoy with its number; and the digest of a text by a hash
 pub record Maker : Type 0 where
   pub disclosure : ℕ → Option Text → Tree → Text
   pub piece : ℕ → Text
@@ -36,7 +37,8 @@ digests_from dg k many = map dg (range_with_len k many)
 
 -- those of the decoys, by the order's hash
 abbrev pub decoy_digests : Maker → Order → List Text
-decoy_digests maker o = digests_from (λ k. maker.digest o.hash (maker.piece k)) (hidden_of o) (length (decoys_of o))
+decoy_digests maker o =
+    digests_from (λ k. maker.digest o.hash (maker.piece k)) (hidden_of o) (length (decoys_of o))
 
 abbrev pub issued_digests : Maker → Order → List Given → List Text
 issued_digests maker o given = given_digests given ++ decoy_digests maker o

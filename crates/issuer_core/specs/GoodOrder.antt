@@ -1,4 +1,5 @@
--- What refusals 51, 52, 53 and 57 ask of an order, and what is so of every payload that a machine holds.
+-- What refusals 51, 52, 53 and 57 ask of an order, and what is so of every
+-- payload that a machine holds.
 use Rattle.std.specs.Prelude.{◌<◌, ◌≤◌, ◌^◌, Option, Some, IfSome}
 use Rattle.std.specs.Str.{IsUtf8}
 use Rattle.sd_outside.specs.Limits.{depth_max}
@@ -31,7 +32,8 @@ pub record IsGoodOrder (o : Order) : Type 0 where
   pub decoys_held : (entry : Decoy) → In entry o.decoys → HoldsOthers (tree_at o.payload entry.at)
   pub ordered : IsOrdered o.payload
 
--- what is so of every tree that a machine holds: each list has fewer than 2 ^ 64 elements, and each text and each name is UTF-8
+-- what is so of every tree that a machine holds: each list has fewer than 2 ^
+-- 64 elements, and each text and each name is UTF-8
 abbrev pub FitsMachine : Tree → Type 0
 FitsMachine t = Everywhere LeafIsUtf8 (λ es. elements_len es < 2 ^ 64) (λ name _. IsUtf8 name) t
 

@@ -1,4 +1,5 @@
--- Not needed to believe the program's promises: why no token is issued, and when the signer is asked.
+-- Not needed to believe the program's promises: why no token is issued, and
+-- when the signer is asked.
 use Rattle.std.specs.Prelude.{◌≡◌, ℕ, ◌<◌}
 use Rattle.claim_tree.specs.Tree.{Text}
 use Rattle.hmac_sign.specs.Signatures.{Meaning}
@@ -20,8 +21,8 @@ pub record IsToBeSigned (maker : Maker) (o : Order) : Type 0 where
   pub passes : NoneApplies (AppliesToOrder o)
   pub differ : HasNoClash maker o
 
--- why an order is not issued: by the lowest refusal that applies, or a signer failed where none of 51 to 60 does; want of memory
--- says nothing of it
+-- why an order is not issued: by the lowest refusal that applies, or a signer failed where none of
+-- 51 to 60 does; want of memory says nothing of it
 abbrev pub IsNotIssued : Maker → Order → Text → Meaning → IssueError → Type 0
 IsNotIssued maker o alg good Memory = Unit {0}
 IsNotIssued maker o alg good SignFailed = IsToBeSigned maker o

@@ -17,7 +17,8 @@ HasClash digests (DigestClash i j) = IsFirstClash digests i j
 HasClash digests error = ⊥
 
 -- what is to be signed has this header, this payload and these disclosures
-pub record AreWritten (header : Header) (body : Tree) (texts : List Text) (token : UnsignedToken) : Type 0 where
+pub record AreWritten (header : Header) (body : Tree) (texts : List Text) (token : UnsignedToken)
+    : Type 0 where
   pub protected : token.jwt.protected ≡ b64 (json_text (object (header_members header)))
   pub payload : token.jwt.payload ≡ b64 (json_text body)
   pub disclosures : token.disclosures ≡ texts

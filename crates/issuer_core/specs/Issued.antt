@@ -33,17 +33,20 @@ root_of m (value_of k) = unwrap_or (mark_path m k) []
 abbrev pub origin : Marked → OwnedSite → Path
 origin m x = root_of m x.owner ++ map step_text x.site.at
 
--- the place of a decoy with so many earlier ones: an object has it among its `_sd`, a list has the decoys behind its own elements
+-- the place of a decoy with so many earlier ones: an object has it among its
+-- `_sd`, a list has the decoys behind its own elements
 abbrev pub IsDecoySite : Marked → OwnedSite → Path → ℕ → Option Tree → Type 0
 IsDecoySite m x at many (Some (object ms)) = (x.site.kind ≡ Member) × (origin m x ≡ at)
-IsDecoySite m x at many (Some (array es)) = (x.site.kind ≡ Element) × (origin m x ≡ at ++ decimal (elements_len es + many) ∷ [])
+IsDecoySite m x at many (Some (array es)) =
+    (x.site.kind ≡ Element) × (origin m x ≡ at ++ decimal (elements_len es + many) ∷ [])
 IsDecoySite m x at many _ = Unit {0}
 
 -- each decoy has its digest at its place
 abbrev pub DecoysStand : Maker → Order → Tree → List Given → Type 0
 DecoysStand maker o p given =
     (d : ℕ) (at : Path) → StandsAt (decoys_of o) d at
-    → (x : OwnedSite) × In x (all_sites p given) × (x.site.digest ≡ maker.digest o.hash (maker.piece (hidden_of o + d)))
+    → (x : OwnedSite) × In x (all_sites p given)
+    × (x.site.digest ≡ maker.digest o.hash (maker.piece (hidden_of o + d)))
     × IsDecoySite (marked_claims o) x at (earlier d at (decoys_of o)) (tree_at o.payload at)
 
 -- ---- the lists `_sd`
@@ -54,7 +57,9 @@ Rises (digest ∷ digests) = IsBeforeAll digest digests × Rises digests
 
 -- a list of texts, not empty, each after the one before it by their bytes
 abbrev pub IsDigestList : Tree → Type 0
-IsDigestList t = (digest : Text) × (digests : List Text) × (text_list t ≡ Some (digest ∷ digests)) × Rises (digest ∷ digests)
+IsDigestList t =
+    (digest : Text) × (digests : List Text) × (text_list t ≡ Some (digest ∷ digests))
+    × Rises (digest ∷ digests)
 
 -- each member `_sd` is one
 abbrev pub HasDigestLists : Tree → Type 0
@@ -65,16 +70,20 @@ HasDigestLists t = EachMember (λ name value. bytes_eq name sd_name ≡ true →
 pub record IsIssuedFor (maker : Maker) (o : Order) (p : Tree) (given : List Given) : Type 0 where
   -- a disclosure for each hidden place
   pub count : length given ≡ hidden_of o
-  pub made : (k : ℕ) (x : Given) → StandsAt given k x → x.digest ≡ maker.digest o.hash (maker.disclosure k x.name x.value)
+  pub made : (k : ℕ) (x : Given) → StandsAt given k x
+      → x.digest ≡ maker.digest o.hash (maker.disclosure k x.name x.value)
   -- together they show the claims, each disclosure at its place
   pub opens : processed p given ≡ marked_claims o
-  -- the digests that stand in the payload and in the values are those of the disclosures and of the decoys
-  pub each_once : (digest : Text) → occurs digest (all_digests p given) ≡ occurs digest (issued_digests maker o given)
+  -- the digests that stand in the payload and in the values are those of the
+  -- disclosures and of the decoys
+  pub each_once : (digest : Text)
+      → occurs digest (all_digests p given) ≡ occurs digest (issued_digests maker o given)
   pub differ : AtNone (Repeats (issued_digests maker o given))
   pub decoys : DecoysStand maker o p given
   pub payload_rises : HasDigestLists p
   pub values_rise : (x : Given) → In x given → HasDigestLists x.value
-  -- payload and values are JSON values: the names of each object ascend, each once, and numbers are in range
+  -- payload and values are JSON values: the names of each object ascend, each
+  -- once, and numbers are in range
   pub readable : IsReadable p given
   pub payload_ranged : IsRanged p
   pub values_ranged : (x : Given) → In x given → IsRanged x.value

@@ -1,4 +1,5 @@
--- Claims with what is marked hidden behind digests, RFC 9901 section 4.2.4, and the disclosures of what is hidden.
+-- Claims with what is marked hidden behind digests, RFC 9901 section 4.2.4, and
+-- the disclosures of what is hidden.
 use Rattle.std.specs.Prelude.{◌≡◌, ℕ, suc, ◌+◌, ◌<◌, List, [], ◌∷◌, ◌++◌, length, Option, Some, None, decimal}
 use Rattle.std.specs.Ordering.{match_ordering, nat_cmp}
 use Rattle.std.specs.Cmp.Lexicographic.{slice_cmp}
@@ -57,22 +58,27 @@ hidden_digests dg no_marked_members = []
 hidden_digests dg (marked_member name None t ms) = hidden_digests dg ms
 hidden_digests dg (marked_member name (Some i) t ms) = dg i ∷ hidden_digests dg ms
 
--- laid with the digest dg i for mark i, and the digests of the decoys at each place: a list has those behind its elements
+-- laid with the digest dg i for mark i, and the digests of the decoys at each
+-- place: a list has those behind its elements
 abbrev mutual
   pub lay : (Path → List Text) → (ℕ → Text) → Marked → Tree
   lay decoys dg (marked_leaf l) = leaf l
   lay decoys dg (marked_array es) = array (lay_elements decoys dg 0 es)
-  lay decoys dg (marked_object ms) = object (with_sd (sorted (hidden_digests dg ms ++ decoys [])) (lay_members decoys dg ms))
+  lay decoys dg (marked_object ms) =
+      object (with_sd (sorted (hidden_digests dg ms ++ decoys [])) (lay_members decoys dg ms))
 
   -- the first element has the position i
   pub lay_elements : (Path → List Text) → (ℕ → Text) → ℕ → MarkedElements → Elements
   lay_elements decoys dg i no_marked_elements = digest_elements (decoys [])
-  lay_elements decoys dg i (marked_element None t es) = element (lay (λ at. decoys (decimal i ∷ at)) dg t) (lay_elements decoys dg (suc i) es)
-  lay_elements decoys dg i (marked_element (Some k) t es) = element (digest_object (dg k)) (lay_elements decoys dg (suc i) es)
+  lay_elements decoys dg i (marked_element None t es) =
+      element (lay (λ at. decoys (decimal i ∷ at)) dg t) (lay_elements decoys dg (suc i) es)
+  lay_elements decoys dg i (marked_element (Some k) t es) =
+      element (digest_object (dg k)) (lay_elements decoys dg (suc i) es)
 
   pub lay_members : (Path → List Text) → (ℕ → Text) → MarkedMembers → Members
   lay_members decoys dg no_marked_members = no_members
-  lay_members decoys dg (marked_member name None t ms) = member name (lay (λ at. decoys (name ∷ at)) dg t) (lay_members decoys dg ms)
+  lay_members decoys dg (marked_member name None t ms) =
+      member name (lay (λ at. decoys (name ∷ at)) dg t) (lay_members decoys dg ms)
   lay_members decoys dg (marked_member name (Some k) t ms) = lay_members decoys dg ms
 
 -- the disclosure of what has the mark, if any
@@ -91,12 +97,16 @@ abbrev mutual
   pub laid_elements : (Path → List Text) → (ℕ → Text) → ℕ → MarkedElements → List Given
   laid_elements decoys dg i no_marked_elements = []
   laid_elements decoys dg i (marked_element k t es) =
-      (laid_given (λ at. decoys (decimal i ∷ at)) dg t ++ own_given dg None k (lay (λ at. decoys (decimal i ∷ at)) dg t)) ++ laid_elements decoys dg (suc i) es
+      (laid_given (λ at. decoys (decimal i ∷ at)) dg t
+      ++ own_given dg None k (lay (λ at. decoys (decimal i ∷ at)) dg t))
+      ++ laid_elements decoys dg (suc i) es
 
   pub laid_members : (Path → List Text) → (ℕ → Text) → MarkedMembers → List Given
   laid_members decoys dg no_marked_members = []
   laid_members decoys dg (marked_member name k t ms) =
-      (laid_given (λ at. decoys (name ∷ at)) dg t ++ own_given dg (Some name) k (lay (λ at. decoys (name ∷ at)) dg t)) ++ laid_members decoys dg ms
+      (laid_given (λ at. decoys (name ∷ at)) dg t
+      ++ own_given dg (Some name) k (lay (λ at. decoys (name ∷ at)) dg t))
+      ++ laid_members decoys dg ms
 
 -- ---- an order
 
@@ -104,10 +114,13 @@ abbrev mutual
 abbrev pub order_decoys : Order → (ℕ → Text) → Path → List Text
 order_decoys o dg = decoys_at dg (hidden_of o) (decoys_of o)
 
--- the payload, without `_sd_alg`, and the disclosures are laid from the order's marked claims, where dg has the digest of each
--- disclosure, and then of each decoy, by the order's hash
-pub record IsLaid (maker : Maker) (o : Order) (payload : Tree) (given : List Given) (dg : ℕ → Text) : Type 0 where
+-- the payload, without `_sd_alg`, and the disclosures are laid from the order's marked claims,
+-- where dg has the digest of each disclosure, and then of each decoy, by the order's hash
+pub record IsLaid (maker : Maker) (o : Order) (payload : Tree) (given : List Given) (dg : ℕ → Text)
+    : Type 0 where
   pub payload_laid : payload ≡ lay (order_decoys o dg) dg (marked_claims o)
   pub given_laid : given ≡ laid_given (order_decoys o dg) dg (marked_claims o)
-  pub disclosures : (k : ℕ) (x : Given) → StandsAt given k x → dg k ≡ maker.digest o.hash (maker.disclosure k x.name x.value)
-  pub decoys : (d : ℕ) → d < length (decoys_of o) → dg (hidden_of o + d) ≡ maker.digest o.hash (maker.piece (hidden_of o + d))
+  pub disclosures : (k : ℕ) (x : Given) → StandsAt given k x
+      → dg k ≡ maker.digest o.hash (maker.disclosure k x.name x.value)
+  pub decoys : (d : ℕ) → d < length (decoys_of o)
+      → dg (hidden_of o + d) ≡ maker.digest o.hash (maker.piece (hidden_of o + d))

@@ -44,7 +44,8 @@ elements_joined (element t es) others = element t (elements_joined es others)
 abbrev pub digests_on_path : List Path → List Text → Path → List Text
 digests_on_path [] digests at = []
 digests_on_path (path ∷ paths) [] at = []
-digests_on_path (path ∷ paths) (digest ∷ digests) at = (if same_path path at then digest ∷ [] else []) ++ digests_on_path paths digests at
+digests_on_path (path ∷ paths) (digest ∷ digests) at =
+    (if same_path path at then digest ∷ [] else []) ++ digests_on_path paths digests at
 
 -- entries: a digest beside its path
 abbrev pub paths_in : List (Path × Text) → List Path
@@ -69,10 +70,13 @@ EndHere d = (step : Text) (at : Path) → placed_at d (step ∷ at) ≡ []
 abbrev pub DecoysTell : Decoys → (Path → List Text) → Type 0
 DecoysTell d dec = (at : Path) → placed_at d at ≡ dec at
 
--- it holds of the decoys' digests and of those of the texts by their numbers, whatever tells the decoys, and whatever
--- texts come behind
-abbrev pub ForAllDigests : Decoys → HashAlg → List Text → ((Path → List Text) → (ℕ → Text) → Type 0) → Type 0
-ForAllDigests d hash texts Holds = (dec : Path → List Text) → DecoysTell d dec → (more : List Text) → Holds dec (digest_at hash (texts ++ more))
+-- it holds of the decoys' digests and of those of the texts by their numbers, whatever tells the
+-- decoys, and whatever texts come behind
+abbrev pub ForAllDigests : Decoys → HashAlg → List Text → ((Path → List Text) → (ℕ → Text) → Type 0)
+    → Type 0
+ForAllDigests d hash texts Holds =
+    (dec : Path → List Text) → DecoysTell d dec → (more : List Text)
+    → Holds dec (digest_at hash (texts ++ more))
 
 -- ---- a part
 
@@ -93,17 +97,28 @@ hidden_with hidden (LaidNode.Hidden d) = hidden ++ d ∷ []
 
 -- ---- marked claims
 
--- laid with a hash and salts, of which the first `hidden` are those of the disclosures, and the others those of decoys with these places
-pub record IsLaidWith (hash : HashAlg) (salts : List Text) (hidden : ℕ) (decoys : List Path) (m : Marked) (payload : Tree) (texts digests : List Text) : Type 0 where
-  pub laid : (dec : Path → List Text) → ((at : Path) → digests_on_path decoys (map (digest_of hash) (drop hidden salts)) at ≡ dec at) → (more : List Text) → payload ≡ with_alg hash (lay dec (digest_at hash (texts ++ more)) m)
-  pub made : (dec : Path → List Text) → ((at : Path) → digests_on_path decoys (map (digest_of hash) (drop hidden salts)) at ≡ dec at) → (more : List Text) → texts ≡ made_texts (salted salts) 0 (laid_given dec (digest_at hash (texts ++ more)) m)
+-- laid with a hash and salts, of which the first `hidden` are those of the disclosures, and the
+-- others those of decoys with these places
+pub record IsLaidWith (hash : HashAlg) (salts : List Text) (hidden : ℕ) (decoys : List Path)
+    (m : Marked) (payload : Tree) (texts digests : List Text) : Type 0 where
+  pub laid : (dec : Path → List Text)
+      → ((at : Path)
+      → digests_on_path decoys (map (digest_of hash) (drop hidden salts)) at ≡ dec at)
+      → (more : List Text) → payload ≡ with_alg hash (lay dec (digest_at hash (texts ++ more)) m)
+  pub made : (dec : Path → List Text)
+      → ((at : Path)
+      → digests_on_path decoys (map (digest_of hash) (drop hidden salts)) at ≡ dec at)
+      → (more : List Text)
+      → texts ≡ made_texts (salted salts) 0 (laid_given dec (digest_at hash (texts ++ more)) m)
   pub count : length texts ≡ hidden
   pub digests_are : digests ≡ map (digest_of hash) texts ++ map (digest_of hash) (drop hidden salts)
 
 -- ---- an order
 
--- the payload and the disclosures' texts are laid for the order, and the digests are those of the disclosures and then of the decoys
-pub record IsLaidFor (maker : Maker) (o : Order) (payload : Tree) (texts digests : List Text) : Type 0 where
+-- the payload and the disclosures' texts are laid for the order, and the
+-- digests are those of the disclosures and then of the decoys
+pub record IsLaidFor (maker : Maker) (o : Order) (payload : Tree) (texts digests : List Text)
+    : Type 0 where
   pub laid : Tree
   pub given : List Given
   pub dg : ℕ → Text

@@ -85,4 +85,5 @@ refusal_place _ = 0
 pub record IsLowestRefusal (Applies : IssueError → Type 0) (error : IssueError) : Type 0 where
   pub applies : Applies error
   pub lowest : (other : IssueError) → Applies other → issue_number error ≤ issue_number other
-  pub first : (other : IssueError) → Applies other → issue_number other ≡ issue_number error → refusal_place error ≤ refusal_place other
+  pub first : (other : IssueError) → Applies other → issue_number other ≡ issue_number error
+      → refusal_place error ≤ refusal_place other

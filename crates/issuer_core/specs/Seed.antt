@@ -1,4 +1,5 @@
--- How an issuer makes texts from a seed, RFC 9901 section 4.2: a salt for each disclosure and each decoy.
+-- How an issuer makes texts from a seed, RFC 9901 section 4.2: a salt for each
+-- disclosure and each decoy.
 use Rattle.std.specs.Prelude.{ℕ, List}
 use Rattle.claim_tree.specs.Tree.{text, leaf}
 use Rattle.disclosure.specs.Digest.{digest_of}

@@ -1,5 +1,5 @@
--- Not needed to believe the program's promises: issuing in two steps, what is to be signed for an order,
--- and the token with a signature of anyone.
+-- Not needed to believe the program's promises: issuing in two steps, what is to be signed for an
+-- order, and the token with a signature of anyone.
 use Rattle.std.specs.Prelude.{◌≡◌, ℕ, ◌+◌, ◌<◌, List, length, None}
 use Rattle.std.specs.List.{AllByRecursion}
 use Rattle.b64url_text.specs.Base64url.{IsWord, b64}
@@ -26,9 +26,10 @@ use Rattle.issuer_core.specs.Written.{header_of}
 
 -- ---- what is to be signed
 
--- the texts of this payload, to which the name of the order's hash is put, and of these disclosures, with the header for an
--- algorithm of this name
-pub record IsUnsignedToken (maker : Maker) (o : Order) (alg : Text) (payload : Tree) (given : List Given) (token : UnsignedToken) : Type 0 where
+-- the texts of this payload, to which the name of the order's hash is put, and of these
+-- disclosures, with the header for an algorithm of this name
+pub record IsUnsignedToken (maker : Maker) (o : Order) (alg : Text) (payload : Tree)
+    (given : List Given) (token : UnsignedToken) : Type 0 where
   pub protected : token.jwt.protected ≡ b64 (json_text (object (header_members (header_of alg o))))
   pub body : token.jwt.payload ≡ b64 (json_text (with_alg o.hash payload))
   pub disclosures : token.disclosures ≡ made_texts maker.disclosure 0 given
@@ -76,12 +77,14 @@ pub record IsTokenBy (token : UnsignedToken) (good : Meaning) (parts : Parts) : 
 -- it is too long with this signature; want of memory says nothing
 abbrev pub IsTokenTooLong : UnsignedToken → List ℕ → IssueError → Type 0
 IsTokenTooLong token signature Memory = Unit {0}
-IsTokenTooLong token signature TooLong = (parts : Parts) × IsTokenWith token signature parts × (issue_max < length (compact parts))
+IsTokenTooLong token signature TooLong =
+    (parts : Parts) × IsTokenWith token signature parts × (issue_max < length (compact parts))
 IsTokenTooLong token signature error = ⊥
 
 -- for private functions: nothing was signed, or it is too long with some good signature
 abbrev pub IsTokenUnmade : UnsignedToken → Meaning → IssueError → Type 0
 IsTokenUnmade token good Memory = Unit {0}
 IsTokenUnmade token good SignFailed = Unit {0}
-IsTokenUnmade token good TooLong = (parts : Parts) × IsTokenBy token good parts × (issue_max < length (compact parts))
+IsTokenUnmade token good TooLong =
+    (parts : Parts) × IsTokenBy token good parts × (issue_max < length (compact parts))
 IsTokenUnmade token good error = ⊥

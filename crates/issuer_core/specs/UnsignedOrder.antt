@@ -1,5 +1,5 @@
--- Not needed to believe the program's promises: the file that says an order for who signs elsewhere,
--- an order file without a key.
+-- Not needed to believe the program's promises: the file that says an order for who signs
+-- elsewhere, an order file without a key.
 use Rattle.std.specs.Prelude.{List, [], ◌∷◌}
 use Rattle.sd_outside.specs.Limits.{file_max}
 use Rattle.claim_tree.specs.Tree.{Text, Members}

@@ -1,4 +1,5 @@
--- The token that is written for an order, RFC 9901 sections 4.1 and 4.2: its texts, and the signature over them.
+-- The token that is written for an order, RFC 9901 sections 4.1 and 4.2: its
+-- texts, and the signature over them.
 use Rattle.std.specs.Prelude.{◌≡◌, ℕ, List, None}
 use Rattle.b64url_text.specs.Base64url.{b64}
 use Rattle.claim_tree.specs.Tree.{Text, Tree, object}
@@ -17,10 +18,13 @@ use Rattle.issuer_core.specs.Issued.{IsIssuedFor}
 abbrev pub header_of : Text → Order → Header
 header_of alg o = record { alg = alg; kid = o.kid; typ = o.typ }
 
--- the parts are the texts of this payload, to which the name of the order's hash is put, and of these disclosures, with a good
--- signature by the algorithm of this name and without a key binding token
-pub record IsWritten (maker : Maker) (o : Order) (alg : Text) (good : Meaning) (payload : Tree) (given : List Given) (parts : Parts) : Type 0 where
-  pub protected : parts.signed.protected ≡ b64 (json_text (object (header_members (header_of alg o))))
+-- the parts are the texts of this payload, to which the name of the order's
+-- hash is put, and of these disclosures, with a good signature by the algorithm
+-- of this name and without a key binding token
+pub record IsWritten (maker : Maker) (o : Order) (alg : Text) (good : Meaning) (payload : Tree)
+    (given : List Given) (parts : Parts) : Type 0 where
+  pub protected : parts.signed.protected
+      ≡ b64 (json_text (object (header_members (header_of alg o))))
   pub body : parts.signed.payload ≡ b64 (json_text (with_alg o.hash payload))
   pub signature : List ℕ
   pub signature_text : parts.signed.signature ≡ b64 signature
@@ -29,14 +33,16 @@ pub record IsWritten (maker : Maker) (o : Order) (alg : Text) (good : Meaning) (
   pub unbound : parts.binding ≡ None
 
 -- the parts are issued for the order: what they show, and how they are written
-pub record IsIssued (maker : Maker) (o : Order) (alg : Text) (good : Meaning) (parts : Parts) : Type 0 where
+pub record IsIssued (maker : Maker) (o : Order) (alg : Text) (good : Meaning) (parts : Parts)
+    : Type 0 where
   pub payload : Tree
   pub given : List Given
   pub issued : IsIssuedFor maker o payload given
   pub written : IsWritten maker o alg good payload given parts
 
 -- the parts are those of what is laid for the order
-pub record IsLaidOut (maker : Maker) (o : Order) (alg : Text) (good : Meaning) (parts : Parts) : Type 0 where
+pub record IsLaidOut (maker : Maker) (o : Order) (alg : Text) (good : Meaning) (parts : Parts)
+    : Type 0 where
   pub payload : Tree
   pub given : List Given
   pub digests : ℕ → Text

@@ -91,7 +91,8 @@ impl<'a> Decoys<'a> {
         self.search_below(step)
     }
 
-    // The same for an element of a list. The digits of its position are written only where they are compared.
+    // The same for an element of a list. The digits of its position are written
+    // only where they are compared.
     pub(crate) fn below_element(&self, i: usize) -> Decoys<'a>
         requires fits { self.now.depth ≤ 126 }
         requires placed { ArePlaced self.now }
@@ -131,7 +132,10 @@ pub(crate) fn sort_decoys(
     requires { length digests.now ≡ length (decoy_paths decoys.now) }
     ensures sorted { IfOk result (λ sorted. AreSorted sorted.paths.items) }
     ensures each { IfOk result (λ sorted. length sorted.digests.items ≡ length sorted.paths.items) }
-    ensures placed { IfOk result (λ sorted. (at : Steps) → digests_on_path sorted.paths.items sorted.digests.items at ≡ digests_on_path (decoy_paths decoys.now) digests.now at) }
+    ensures placed { IfOk result
+        (λ sorted. (at : Steps)
+        → digests_on_path sorted.paths.items sorted.digests.items at
+        ≡ digests_on_path (decoy_paths decoys.now) digests.now at) }
 {
     let mut entries = Vec::with_capacity(alloc, digests.len())?;
     for decoy in decoys.elements() {
@@ -151,8 +155,10 @@ fn push_entries(
 ) -> Result<(), NoMemory>
     requires few { length entries.old.items + count ≤ length digests.now }
     requires digests { digests_in entries.old.items ≡ take (length entries.old.items) digests.now }
-    ensures paths { OnOk result (paths_in entries.new.items ≡ paths_in entries.old.items ++ replicate count at.now) }
-    ensures digests { OnOk result (digests_in entries.new.items ≡ take (length entries.new.items) digests.now) }
+    ensures paths { OnOk result
+        (paths_in entries.new.items ≡ paths_in entries.old.items ++ replicate count at.now) }
+    ensures digests { OnOk result
+        (digests_in entries.new.items ≡ take (length entries.new.items) digests.now) }
 {
     for _ in 0..count {
         let Some(digest) = digests.at(entries.len()) else {

@@ -4,8 +4,8 @@ use sd_outside::NoMemory;
 
 /// Why an order is not issued.
 ///
-/// Beside `Memory` and `SignFailed` these are the refusals 51 to 61, in the order in which they are judged. Of those
-/// that apply the first is answered, and of its places the least, counted from 0.
+/// Beside `Memory` and `SignFailed` these are the refusals 51 to 61, in the order in which they are
+/// judged. Of those that apply the first is answered, and of its places the least, counted from 0.
 #[derive(Debug, Drop)]
 pub enum IssueError {
     /// There was no memory for the token.
@@ -14,7 +14,8 @@ pub enum IssueError {
     SignFailed,
     /// 51: the payload is no object.
     PayloadNotObject,
-    /// 52: an object in the payload has a member `_sd`, `_sd_alg` or `...`. This is the path of the first.
+    /// 52: an object in the payload has a member `_sd`, `_sd_alg` or `...`.
+    /// This is the path of the first.
     ReservedName(Path),
     /// 53: the payload nests deeper than [`DEPTH_MAX`](crate::DEPTH_MAX).
     TooDeep,
@@ -30,7 +31,8 @@ pub enum IssueError {
     TooManyHidden,
     /// 59: there are more than [`COUNT_MAX`](compact_form::COUNT_MAX) decoys.
     TooManyDecoys,
-    /// 60: the digests at these two places are equal, those of disclosures first and then those of decoys.
+    /// 60: the digests at these two places are equal, those of disclosures
+    /// first and then those of decoys.
     DigestClash(usize, usize),
     /// 61: the compact text has more than [`ISSUE_MAX`](compact_form::ISSUE_MAX) bytes.
     TooLong,

@@ -28,11 +28,11 @@ use jws_part::{Header, write_body, write_header};
 use sd_outside::{NoMemory, TextBox, TextList, copy_text};
 use std::alloc::Global;
 
-/// Issues a token for a copy of an order: the compact parts of an SD-JWT, RFC 9901 section 4, without a key binding
-/// token.
+/// Issues a token for a copy of an order: the compact parts of an SD-JWT, RFC
+/// 9901 section 4, without a key binding token.
 ///
-/// The seed makes the salts, so that one order and one seed make one token. The signer is asked once, when all else is
-/// there.
+/// The seed makes the salts, so that one order and one seed make one token. The
+/// signer is asked once, when all else is there.
 pub fn issue<S: Signer>(
     alloc: Global,
     order: &Order,
@@ -40,16 +40,23 @@ pub fn issue<S: Signer>(
     signer: &mut S,
 ) -> Result<Parts, IssueError>
     requires depth { depth_of (tree_of order.now.payload) ≤ json_depth_max }
-    ensures issued { IfOk result (IsIssued (maker_of seed.now) (order_of order.now) (S.alg_name_of signer.old) (S.good signer.old)) }
-    ensures laid { IfOk result (IsLaidOut (maker_of seed.now) (order_of order.now) (S.alg_name_of signer.old) (S.good signer.old)) }
+    ensures issued { IfOk result
+        (IsIssued (maker_of seed.now) (order_of order.now) (S.alg_name_of signer.old)
+        (S.good signer.old)) }
+    ensures laid { IfOk result
+        (IsLaidOut (maker_of seed.now) (order_of order.now) (S.alg_name_of signer.old)
+        (S.good signer.old)) }
     ensures passes { IfOk result (λ _. NoneApplies (AppliesToOrder (order_of order.now))) }
     ensures writable { IfOk result (λ _. IsWritable (order_of order.now)) }
     ensures differ { IfOk result (λ _. HasNoClash (maker_of seed.now) (order_of order.now)) }
     ensures words { IfOk result AreWords }
     ensures few { IfOk result (λ parts. length parts.disclosures ≤ count_max) }
     ensures short { IfOk result (λ parts. length (compact parts) ≤ issue_max) }
-    ensures refused { IfErr result (IsNotIssued (maker_of seed.now) (order_of order.now) (S.alg_name_of signer.old) (S.good signer.old)) }
-    ensures failed { IsErrOf result IssueError.SignFailed → Rose (S.faults signer.old) (S.faults signer.new) }
+    ensures refused { IfErr result
+        (IsNotIssued (maker_of seed.now) (order_of order.now) (S.alg_name_of signer.old)
+        (S.good signer.old)) }
+    ensures failed { IsErrOf result IssueError.SignFailed
+        → Rose (S.faults signer.old) (S.faults signer.new) }
 
     // what stays
     ensures same_good { Agree (S.good signer.new) (S.good signer.old) }
@@ -68,16 +75,23 @@ pub fn issue_owned<S: Signer>(
     signer: &mut S,
 ) -> Result<Parts, IssueError>
     requires depth { depth_of (tree_of order.payload) ≤ json_depth_max }
-    ensures issued { IfOk result (IsIssued (maker_of seed.now) (order_of order) (S.alg_name_of signer.old) (S.good signer.old)) }
-    ensures laid { IfOk result (IsLaidOut (maker_of seed.now) (order_of order) (S.alg_name_of signer.old) (S.good signer.old)) }
+    ensures issued { IfOk result
+        (IsIssued (maker_of seed.now) (order_of order) (S.alg_name_of signer.old)
+        (S.good signer.old)) }
+    ensures laid { IfOk result
+        (IsLaidOut (maker_of seed.now) (order_of order) (S.alg_name_of signer.old)
+        (S.good signer.old)) }
     ensures passes { IfOk result (λ _. NoneApplies (AppliesToOrder (order_of order))) }
     ensures writable { IfOk result (λ _. IsWritable (order_of order)) }
     ensures differ { IfOk result (λ _. HasNoClash (maker_of seed.now) (order_of order)) }
     ensures words { IfOk result AreWords }
     ensures few { IfOk result (λ parts. length parts.disclosures ≤ count_max) }
     ensures short { IfOk result (λ parts. length (compact parts) ≤ issue_max) }
-    ensures refused { IfErr result (IsNotIssued (maker_of seed.now) (order_of order) (S.alg_name_of signer.old) (S.good signer.old)) }
-    ensures failed { IsErrOf result IssueError.SignFailed → Rose (S.faults signer.old) (S.faults signer.new) }
+    ensures refused { IfErr result
+        (IsNotIssued (maker_of seed.now) (order_of order) (S.alg_name_of signer.old)
+        (S.good signer.old)) }
+    ensures failed { IsErrOf result IssueError.SignFailed
+        → Rose (S.faults signer.old) (S.faults signer.new) }
 
     // what stays
     ensures same_good { Agree (S.good signer.new) (S.good signer.old) }
@@ -91,11 +105,11 @@ pub fn issue_owned<S: Signer>(
     token.sign(alloc, signer)
 }
 
-/// What is to be signed of a token for an order, and its disclosures: for who signs elsewhere, by an algorithm of this
-/// name (RFC 7515 section 4.1.1).
+/// What is to be signed of a token for an order, and its disclosures: for who signs elsewhere, by
+/// an algorithm of this name (RFC 7515 section 4.1.1).
 ///
-/// [`UnsignedToken::signed`] puts the signature to it. A signer that is here goes with [`issue_owned`], which makes the
-/// same token.
+/// [`UnsignedToken::signed`] puts the signature to it. A signer that is here goes with
+/// [`issue_owned`], which makes the same token.
 pub fn to_sign(
     alloc: Global,
     order: Order,
@@ -124,7 +138,8 @@ pub fn to_sign(
     Ok(write_unsigned(alloc, &header, laid)?)
 }
 
-/// The header of a token that is issued for the order, with signatures by the algorithm of this name.
+/// The header of a token that is issued for the order, with signatures by the
+/// algorithm of this name.
 pub fn order_header(alloc: Global, order: &Order, alg: &str) -> Result<Header, NoMemory>
     ensures { IfOk result (λ header. header ≡ header_of alg.now (order_of order.now)) }
 {

@@ -49,15 +49,17 @@ fn first_root(hide: &PathList) -> Option<usize>
     hide.elements().iter().position(|path| path.len() == 0)
 }
 
-// The tree at a path, where an earlier path and the tree at it may be known: a path that goes on behind that one is
-// followed from there.
+// The tree at a path, where an earlier path and the tree at it may be known: a path that goes on
+// behind that one is followed from there.
 fn find_on<'a>(
     payload: &'a Tree,
     earlier: Option<(&Path, &'a Tree)>,
     path: &Path,
 ) -> Option<&'a Tree>
-    requires { IfSome earlier (λ e. tree_at (tree_of payload.now) e.0.now ≡ Some (tree_of e.1.now)) }
-    ensures { option_map (λ tree. tree_of tree.now) result ≡ tree_at (tree_of payload.now) path.now }
+    requires { IfSome earlier
+        (λ e. tree_at (tree_of payload.now) e.0.now ≡ Some (tree_of e.1.now)) }
+    ensures { option_map (λ tree. tree_of tree.now) result
+        ≡ tree_at (tree_of payload.now) path.now }
 {
     match earlier {
         Some((front, tree)) if is_prefix(front, path) => find_behind(tree, path, front.len()),
@@ -157,7 +159,8 @@ fn are_too_many(decoys: &DecoyList) -> bool
 // The refusals 51 to 53: what the payload may be.
 fn judge_payload(alloc: Global, order: &Order) -> Result<(), IssueError>
     requires { depth_of (tree_of order.now.payload) ≤ json_depth_max }
-    ensures passes { OnOk result (PassesBelow (refusal_number Refusal.RootMarked) (order_of order.now)) }
+    ensures passes { OnOk result
+        (PassesBelow (refusal_number Refusal.RootMarked) (order_of order.now)) }
     ensures ordered { OnOk result (IsOrdered (tree_of order.now.payload)) }
     ensures held { OnOk result (good.FitsMachine (tree_of order.now.payload)) }
     ensures refused { IfErr result (IsOrderRefused (order_of order.now)) }
@@ -178,7 +181,8 @@ fn judge_payload(alloc: Global, order: &Order) -> Result<(), IssueError>
 fn judge_places(order: &Order, different: &PathList) -> Result<(), IssueError>
     requires same { (path : Steps) → is_among different.now path ≡ is_among order.now.hide path }
     requires below { PassesBelow (refusal_number Refusal.RootMarked) (order_of order.now) }
-    ensures passes { OnOk result (PassesBelow (refusal_number Refusal.TooManyHidden) (order_of order.now)) }
+    ensures passes { OnOk result
+        (PassesBelow (refusal_number Refusal.TooManyHidden) (order_of order.now)) }
     ensures refused { IfErr result (IsOrderRefused (order_of order.now)) }
 {
     if let Some(k) = first_root(&order.hide) {
@@ -205,9 +209,11 @@ fn spells_some(text: &Option<TextBox>)
     }
 }
 
-/// Whether an order is refused by what it says itself: by one of 51 to 59, the lowest that applies at its least place.
+/// Whether an order is refused by what it says itself: by one of 51 to 59, the
+/// lowest that applies at its least place.
 ///
-/// It sorts the paths, looks for each of the different ones in the payload, and walks the payload once.
+/// It sorts the paths, looks for each of the different ones in the payload, and
+/// walks the payload once.
 pub fn judge(alloc: Global, order: &Order) -> Result<(), IssueError>
     requires { depth_of (tree_of order.now.payload) ≤ json_depth_max }
     ensures passes { OnOk result (NoneApplies (AppliesToOrder (order_of order.now))) }
@@ -221,10 +227,12 @@ pub fn judge(alloc: Global, order: &Order) -> Result<(), IssueError>
     Ok(())
 }
 
-/// The same. Of an order that is not refused it answers the places that are hidden, in no more entries than may be.
+/// The same. Of an order that is not refused it answers the places that are
+/// hidden, in no more entries than may be.
 pub fn judged_places(alloc: Global, order: &Order) -> Result<PathList, IssueError>
     requires { depth_of (tree_of order.now.payload) ≤ json_depth_max }
-    ensures same { IfOk result (λ places. (path : Steps) → is_among places path ≡ is_among order.now.hide path) }
+    ensures same { IfOk result
+        (λ places. (path : Steps) → is_among places path ≡ is_among order.now.hide path) }
     ensures few { IfOk result (λ places. length places ≤ count_max) }
     ensures passes { IfOk result (λ _. NoneApplies (AppliesToOrder (order_of order.now))) }
     ensures good { IfOk result (λ _. IsGoodOrder (order_of order.now)) }

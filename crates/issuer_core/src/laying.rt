@@ -82,9 +82,18 @@ impl Layer {
         requires salts { length self.old.texts < length hiding.salts.now }
         requires depth { depth (tree_of value) ≤ 126 }
         requires digests { self.old.digests ≡ map (digest_of hiding.hash) self.old.texts }
-        ensures text { OnOk result (self.new.texts ≡ self.old.texts ++ salted hiding.entry.salts.now (length self.old.texts) (option_map (λ n. n.now) name.entry) (tree_of value) ∷ []) }
-        ensures digest { IfOk result (λ digest. digest ≡ digest_of hiding.entry.hash (salted hiding.entry.salts.now (length self.old.texts) (option_map (λ n. n.now) name.entry) (tree_of value))) }
-        ensures digests { OnOk result (self.new.digests ≡ map (digest_of hiding.entry.hash) self.new.texts) }
+        ensures text { OnOk result
+            (self.new.texts
+            ≡ self.old.texts
+            ++ salted hiding.entry.salts.now (length self.old.texts)
+            (option_map (λ n. n.now) name.entry) (tree_of value) ∷ []) }
+        ensures digest { IfOk result
+            (λ digest. digest
+            ≡ digest_of hiding.entry.hash
+            (salted hiding.entry.salts.now (length self.old.texts)
+            (option_map (λ n. n.now) name.entry) (tree_of value))) }
+        ensures digests { OnOk result
+            (self.new.digests ≡ map (digest_of hiding.entry.hash) self.new.texts) }
     {
         let Some(salt) = hiding.salts.at(self.texts.len()) else {
             unreachable!();
@@ -175,7 +184,8 @@ fn put_part(
     Ok(())
 }
 
-// The tree with its marked parts behind digests. The disclosure of a marked part is made after those inside it.
+// The tree with its marked parts behind digests. The disclosure of a marked
+// part is made after those inside it.
 #[cycle(lay)]
 fn lay(
     alloc: Global,
@@ -187,12 +197,22 @@ fn lay(
     requires depth { decoys.depth + depth (strip (marked_of tree)) ≤ 125 }
     requires decoys { ArePlaced decoys }
     requires closes { ClosesFrom (length layer.old.texts) (marked_of tree) }
-    requires salts { length layer.old.texts + weight one (marked_of tree) ≤ length hiding.salts.now }
+    requires salts { length layer.old.texts + weight one (marked_of tree)
+        ≤ length hiding.salts.now }
     requires digests { layer.old.digests ≡ map (digest_of hiding.hash) layer.old.texts }
-    ensures laid { IfOk result (λ laid. ForAllDigests decoys.entry hiding.entry.hash layer.new.texts (λ dec dg. tree_of laid ≡ spec.lay dec dg (marked_of tree))) }
-    ensures texts { OnOk result (ForAllDigests decoys.entry hiding.entry.hash layer.new.texts (λ dec dg. layer.new.texts ≡ layer.old.texts ++ made_texts (salted hiding.entry.salts.now) (length layer.old.texts) (laid_given dec dg (marked_of tree)))) }
-    ensures count { OnOk result (length layer.new.texts ≡ length layer.old.texts + weight one (marked_of tree)) }
-    ensures digests { OnOk result (layer.new.digests ≡ map (digest_of hiding.entry.hash) layer.new.texts) }
+    ensures laid { IfOk result
+        (λ laid. ForAllDigests decoys.entry hiding.entry.hash layer.new.texts
+        (λ dec dg. tree_of laid ≡ spec.lay dec dg (marked_of tree))) }
+    ensures texts { OnOk result
+        (ForAllDigests decoys.entry hiding.entry.hash layer.new.texts
+        (λ dec dg. layer.new.texts
+        ≡ layer.old.texts
+        ++ made_texts (salted hiding.entry.salts.now) (length layer.old.texts)
+        (laid_given dec dg (marked_of tree)))) }
+    ensures count { OnOk result
+        (length layer.new.texts ≡ length layer.old.texts + weight one (marked_of tree)) }
+    ensures digests { OnOk result
+        (layer.new.digests ≡ map (digest_of hiding.entry.hash) layer.new.texts) }
 {
     match tree {
         Marked::Null => Ok(Tree::Null),
@@ -217,10 +237,19 @@ fn lay_list(
     requires closes { ElementsClose (length layer.old.texts) list }
     requires salts { length layer.old.texts + elements_weight one list ≤ length hiding.salts.now }
     requires digests { layer.old.digests ≡ map (digest_of hiding.hash) layer.old.texts }
-    ensures laid { IfOk result (λ laid. ForAllDigests decoys.entry hiding.entry.hash layer.new.texts (λ dec dg. laid ≡ lay_elements dec dg 0 list)) }
-    ensures texts { OnOk result (ForAllDigests decoys.entry hiding.entry.hash layer.new.texts (λ dec dg. layer.new.texts ≡ layer.old.texts ++ made_texts (salted hiding.entry.salts.now) (length layer.old.texts) (laid_elements dec dg 0 list))) }
-    ensures count { OnOk result (length layer.new.texts ≡ length layer.old.texts + elements_weight one list) }
-    ensures digests { OnOk result (layer.new.digests ≡ map (digest_of hiding.entry.hash) layer.new.texts) }
+    ensures laid { IfOk result
+        (λ laid. ForAllDigests decoys.entry hiding.entry.hash layer.new.texts
+        (λ dec dg. laid ≡ lay_elements dec dg 0 list)) }
+    ensures texts { OnOk result
+        (ForAllDigests decoys.entry hiding.entry.hash layer.new.texts
+        (λ dec dg. layer.new.texts
+        ≡ layer.old.texts
+        ++ made_texts (salted hiding.entry.salts.now) (length layer.old.texts)
+        (laid_elements dec dg 0 list))) }
+    ensures count { OnOk result
+        (length layer.new.texts ≡ length layer.old.texts + elements_weight one list) }
+    ensures digests { OnOk result
+        (layer.new.digests ≡ map (digest_of hiding.entry.hash) layer.new.texts) }
 {
     let own = decoys.here();
     let count = list.len();
@@ -250,10 +279,21 @@ fn lay_map(
     requires closes { MembersClose (length layer.old.texts) members }
     requires salts { length layer.old.texts + members_weight one members ≤ length hiding.salts.now }
     requires digests { layer.old.digests ≡ map (digest_of hiding.hash) layer.old.texts }
-    ensures laid { IfOk result (λ laid. ForAllDigests decoys.entry hiding.entry.hash layer.new.texts (λ dec dg. laid ≡ with_sd (sorted (hidden_digests dg members ++ dec [])) (lay_members dec dg members))) }
-    ensures texts { OnOk result (ForAllDigests decoys.entry hiding.entry.hash layer.new.texts (λ dec dg. layer.new.texts ≡ layer.old.texts ++ made_texts (salted hiding.entry.salts.now) (length layer.old.texts) (laid_members dec dg members))) }
-    ensures count { OnOk result (length layer.new.texts ≡ length layer.old.texts + members_weight one members) }
-    ensures digests { OnOk result (layer.new.digests ≡ map (digest_of hiding.entry.hash) layer.new.texts) }
+    ensures laid { IfOk result
+        (λ laid. ForAllDigests decoys.entry hiding.entry.hash layer.new.texts
+        (λ dec dg. laid
+        ≡ with_sd (sorted (hidden_digests dg members ++ dec []))
+        (lay_members dec dg members))) }
+    ensures texts { OnOk result
+        (ForAllDigests decoys.entry hiding.entry.hash layer.new.texts
+        (λ dec dg. layer.new.texts
+        ≡ layer.old.texts
+        ++ made_texts (salted hiding.entry.salts.now) (length layer.old.texts)
+        (laid_members dec dg members))) }
+    ensures count { OnOk result
+        (length layer.new.texts ≡ length layer.old.texts + members_weight one members) }
+    ensures digests { OnOk result
+        (layer.new.digests ≡ map (digest_of hiding.entry.hash) layer.new.texts) }
 {
     let mut laid = TreeMap::new(alloc);
     let mut digests = Vec::new(alloc);
@@ -282,12 +322,25 @@ fn lay_part(
     requires decoys { ArePlaced decoys }
     requires closes { ClosesFrom (length layer.old.texts) (marked_of tree) }
     requires numbered { HasNumber mark (length layer.old.texts + weight one (marked_of tree)) }
-    requires salts { length layer.old.texts + (mark_weight one mark + weight one (marked_of tree)) ≤ length hiding.salts.now }
+    requires salts { length layer.old.texts + (mark_weight one mark + weight one (marked_of tree))
+        ≤ length hiding.salts.now }
     requires digests { layer.old.digests ≡ map (digest_of hiding.hash) layer.old.texts }
-    ensures part { IfOk result (λ part. ForAllDigests decoys.entry hiding.entry.hash layer.new.texts (λ dec dg. IsLaidNode dec dg mark (marked_of tree) part)) }
-    ensures texts { OnOk result (ForAllDigests decoys.entry hiding.entry.hash layer.new.texts (λ dec dg. layer.new.texts ≡ layer.old.texts ++ made_texts (salted hiding.entry.salts.now) (length layer.old.texts) (laid_given dec dg (marked_of tree) ++ own_given dg (option_map (λ n. n.now) name.entry) mark (spec.lay dec dg (marked_of tree))))) }
-    ensures count { OnOk result (length layer.new.texts ≡ length layer.old.texts + (mark_weight one mark + weight one (marked_of tree))) }
-    ensures digests { OnOk result (layer.new.digests ≡ map (digest_of hiding.entry.hash) layer.new.texts) }
+    ensures part { IfOk result
+        (λ part. ForAllDigests decoys.entry hiding.entry.hash layer.new.texts
+        (λ dec dg. IsLaidNode dec dg mark (marked_of tree) part)) }
+    ensures texts { OnOk result
+        (ForAllDigests decoys.entry hiding.entry.hash layer.new.texts
+        (λ dec dg. layer.new.texts
+        ≡ layer.old.texts
+        ++ made_texts (salted hiding.entry.salts.now) (length layer.old.texts)
+        (laid_given dec dg (marked_of tree)
+        ++ own_given dg (option_map (λ n. n.now) name.entry) mark
+        (spec.lay dec dg (marked_of tree))))) }
+    ensures count { OnOk result
+        (length layer.new.texts
+        ≡ length layer.old.texts + (mark_weight one mark + weight one (marked_of tree))) }
+    ensures digests { OnOk result
+        (layer.new.digests ≡ map (digest_of hiding.entry.hash) layer.new.texts) }
 {
     let inside = lay(alloc, tree, decoys, hiding, layer)?;
     match mark {
@@ -299,7 +352,9 @@ fn lay_part(
 // The digests of the salts from `first` on.
 fn decoy_digests(alloc: Global, hiding: Hiding<'_>, first: usize) -> Result<TextList, NoMemory>
     requires { first ≤ length hiding.salts.now }
-    ensures { IfOk result (λ digests. digests ≡ map (digest_of hiding.entry.hash) (drop first hiding.entry.salts.now)) }
+    ensures { IfOk result
+        (λ digests.
+        digests ≡ map (digest_of hiding.entry.hash) (drop first hiding.entry.salts.now)) }
 {
     let Hiding { salts, hash } = hiding;
     let mut digests = TextList::new(alloc);
@@ -336,7 +391,8 @@ fn push_texts(texts: &mut TextList, others: TextList) -> Result<(), NoMemory>
     Ok(())
 }
 
-// Lays an order whose hidden places are told once more, each once, with the salts of a seed. Its texts are moved.
+// Lays an order whose hidden places are told once more, each once, with the
+// salts of a seed. Its texts are moved.
 pub(crate) fn lay_order(
     alloc: Global,
     order: Order,
@@ -347,7 +403,9 @@ pub(crate) fn lay_order(
     requires same { (path : Steps) → is_among places path ≡ is_among order.hide path }
     requires few { length places ≤ count_max }
     requires decoys { length (decoy_paths order.decoys) ≤ count_max }
-    ensures laid { IfOk result (λ laid. IsLaidFor (maker_of seed.now) (order_of order) (tree_of laid.payload) laid.texts laid.digests) }
+    ensures laid { IfOk result
+        (λ laid. IsLaidFor (maker_of seed.now) (order_of order) (tree_of laid.payload) laid.texts
+        laid.digests) }
     ensures few { IfOk result (λ laid. length laid.texts ≤ count_max) }
 {
     if hides_nothing(&order) {
@@ -366,7 +424,9 @@ fn hides_nothing(order: &Order) -> bool
 
 // A payload of which nothing is hidden.
 fn lay_shown(alloc: Global, hash: HashAlg, payload: Tree) -> Result<Laid, NoMemory>
-    ensures { IfOk result (λ laid. (tree_of laid.payload ≡ spec.with_alg hash (tree_of payload)) × (laid.texts ≡ []) × (laid.digests ≡ [])) }
+    ensures { IfOk result
+        (λ laid. (tree_of laid.payload ≡ spec.with_alg hash (tree_of payload)) × (laid.texts ≡ [])
+        × (laid.digests ≡ [])) }
 {
     let payload = with_alg(alloc, hash, payload)?;
     Ok(Laid {
@@ -387,7 +447,9 @@ fn lay_hidden(
     requires same { (path : Steps) → is_among places path ≡ is_among order.hide path }
     requires few { length places ≤ count_max }
     requires decoys { length (decoy_paths order.decoys) ≤ count_max }
-    ensures laid { IfOk result (λ laid. IsLaidFor (maker_of seed.now) (order_of order) (tree_of laid.payload) laid.texts laid.digests) }
+    ensures laid { IfOk result
+        (λ laid. IsLaidFor (maker_of seed.now) (order_of order) (tree_of laid.payload) laid.texts
+        laid.digests) }
     ensures few { IfOk result (λ laid. length laid.texts ≤ count_max) }
 {
     let Order {
@@ -418,7 +480,9 @@ fn lay_salted(
     requires closes { ClosesFrom 0 (marked_of claims) }
     requires hidden { weight one (marked_of claims) ≡ hidden }
     requires salts { length hiding.salts.now ≡ hidden + length (decoy_paths decoys.now) }
-    ensures { IfOk result (λ laid. IsLaidWith hiding.entry.hash hiding.entry.salts.now hidden (decoy_paths decoys.now) (marked_of claims) (tree_of laid.payload) laid.texts laid.digests) }
+    ensures { IfOk result
+        (λ laid. IsLaidWith hiding.entry.hash hiding.entry.salts.now hidden (decoy_paths decoys.now)
+        (marked_of claims) (tree_of laid.payload) laid.texts laid.digests) }
 {
     let of_decoys = decoy_digests(alloc, hiding, hidden)?;
     let sorted = sort_decoys(alloc, decoys, &of_decoys)?;
@@ -438,10 +502,18 @@ fn lay_claims(
     requires decoys { ArePlaced decoys }
     requires closes { ClosesFrom 0 (marked_of claims) }
     requires salts { weight one (marked_of claims) ≤ length hiding.salts.now }
-    ensures laid { IfOk result (λ laid. ForAllDigests decoys.entry hiding.entry.hash laid.texts (λ dec dg. tree_of laid.payload ≡ spec.with_alg hiding.entry.hash (spec.lay dec dg (marked_of claims)))) }
-    ensures texts { IfOk result (λ laid. ForAllDigests decoys.entry hiding.entry.hash laid.texts (λ dec dg. laid.texts ≡ made_texts (salted hiding.entry.salts.now) 0 (laid_given dec dg (marked_of claims)))) }
+    ensures laid { IfOk result
+        (λ laid. ForAllDigests decoys.entry hiding.entry.hash laid.texts
+        (λ dec dg. tree_of laid.payload
+        ≡ spec.with_alg hiding.entry.hash (spec.lay dec dg (marked_of claims)))) }
+    ensures texts { IfOk result
+        (λ laid. ForAllDigests decoys.entry hiding.entry.hash laid.texts
+        (λ dec dg. laid.texts
+        ≡ made_texts (salted hiding.entry.salts.now) 0
+        (laid_given dec dg (marked_of claims)))) }
     ensures count { IfOk result (λ laid. length laid.texts ≡ weight one (marked_of claims)) }
-    ensures digests { IfOk result (λ laid. laid.digests ≡ map (digest_of hiding.entry.hash) laid.texts) }
+    ensures digests { IfOk result
+        (λ laid. laid.digests ≡ map (digest_of hiding.entry.hash) laid.texts) }
 {
     let mut layer = Layer::new(alloc);
     let payload = lay(alloc, claims, decoys, hiding, &mut layer)?;

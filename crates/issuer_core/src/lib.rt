@@ -1,5 +1,5 @@
-//! Issuing an SD-JWT, RFC 9901 section 4.2: places of a payload hidden behind the digests of their disclosures, and
-//! decoys.
+//! Issuing an SD-JWT, RFC 9901 section 4.2: places of a payload hidden behind
+//! the digests of their disclosures, and decoys.
 //!
 //! In three layers, each over the one before:
 //! - an order, and what speaks against it: `order`, `order_file`, `reserved`, `judging`, `refusal`;

@@ -56,7 +56,8 @@ fn copy_decoys(alloc: Global, decoys: &DecoyList) -> Result<DecoyList, NoMemory>
 pub struct Order {
     /// The payload, before anything is hidden.
     pub payload: Tree,
-    /// The places that are hidden, each with all that is inside it. A place that stands twice counts once.
+    /// The places that are hidden, each with all that is inside it. A place
+    /// that stands twice counts once.
     pub hide: PathList,
     /// Where decoys are put.
     pub decoys: DecoyList,

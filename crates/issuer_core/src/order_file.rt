@@ -108,8 +108,11 @@ fn decoy_of(alloc: Global, tree: &Tree) -> Result<Option<Decoy>, NoMemory>
 
 #[tactic(auto, using(claim_tree::proofs::ListForms::no_element, claim_tree::proofs::ListForms::each_turn))]
 fn decoys_of(alloc: Global, trees: &[Tree]) -> Result<Option<DecoyList>, NoMemory>
-    ensures decoys { IfOk result (λ decoys. IfSome decoys (EachSays IsDecoy (elements_of trees.now))) }
-    ensures none { IfOk result (λ decoys. IfNone decoys ((list : List Seen) → EachSays IsDecoy (elements_of trees.now) list → ⊥)) }
+    ensures decoys { IfOk result
+        (λ decoys. IfSome decoys (EachSays IsDecoy (elements_of trees.now))) }
+    ensures none { IfOk result
+        (λ decoys. IfNone decoys
+        ((list : List Seen) → EachSays IsDecoy (elements_of trees.now) list → ⊥)) }
 {
     let mut decoys = DecoyList::new(alloc);
     for tree in trees {
@@ -123,7 +126,8 @@ fn decoys_of(alloc: Global, trees: &[Tree]) -> Result<Option<DecoyList>, NoMemor
 
 fn decoys_member(alloc: Global, members: &TreeMap) -> Result<DecoyList, FileFault>
     ensures ok { IfOk result (SaysOr (IsListOf IsDecoy) [] (found members.now Decoys)) }
-    ensures refused { IfErr result (IsMemberRefused (optional Decoys (IsListOf IsDecoy)) members.now) }
+    ensures refused { IfErr result
+        (IsMemberRefused (optional Decoys (IsListOf IsDecoy)) members.now) }
 {
     let Some(tree) = members.get(Field::Decoys.word()) else {
         return Ok(DecoyList::new(alloc));
@@ -161,9 +165,12 @@ fn alg_member(members: &TreeMap) -> Result<Alg, FileFault>
 // The key of these bytes, by the algorithm that the file names.
 fn key_by_alg(members: &TreeMap, bytes: &[u8]) -> Result<HsKey, FileFault>
     requires { key_min ≤ length bytes.now }
-    ensures alg { IfOk result (λ key. SaysOr (IsAlgFor (length bytes.now)) Alg.Hs256 (found members.now Field.Alg) key.alg) }
+    ensures alg { IfOk result
+        (λ key.
+        SaysOr (IsAlgFor (length bytes.now)) Alg.Hs256 (found members.now Field.Alg) key.alg) }
     ensures key { IfOk result (λ key. key ≡ alg_key key.alg bytes.now) }
-    ensures refused { IfErr result (IsMemberRefused (optional Field.Alg (IsAlgFor (length bytes.now))) members.now) }
+    ensures refused { IfErr result
+        (IsMemberRefused (optional Field.Alg (IsAlgFor (length bytes.now))) members.now) }
 {
     let alg = alg_member(members)?;
     match HsKey::new(alg, bytes) {
@@ -193,18 +200,20 @@ fn hash_member(members: &TreeMap) -> Result<HashAlg, FileFault>
     }
 }
 
-/// The order that a file says: a JSON object that must have `payload`, any JSON value, and `key`, the base64url text of
-/// at least 32 bytes.
+/// The order that a file says: a JSON object that must have `payload`, any JSON value, and `key`,
+/// the base64url text of at least 32 bytes.
 ///
-/// `hide` is a list of JSON Pointers, and `decoys` a list of objects of just `at`, a pointer, and `count`, from 0 to
-/// 32,768; where they are missing they are empty. `kid` and `typ` are texts. `alg` is the name of an algorithm for
-/// which the key is long enough (RFC 7518 section 3.2), and `sd_alg` that of a hash; where they are missing, they are
-/// `HS256` and `sha-256`. Another member is a fault.
+/// `hide` is a list of JSON Pointers, and `decoys` a list of objects of just `at`,
+/// a pointer, and `count`, from 0 to 32,768; where they are missing they are empty.
+/// `kid` and `typ` are texts. `alg` is the name of an algorithm for which the key
+/// is long enough (RFC 7518 section 3.2), and `sd_alg` that of a hash; where they
+/// are missing, they are `HS256` and `sha-256`. Another member is a fault.
 pub fn read_order(alloc: Global, bytes: &[u8]) -> Result<IssueFile, FileFault>
     ensures ok { IfOk result (IsOrderFile bytes.now) }
     ensures ordered { IfOk result (λ said. IsOrdered (tree_of said.order.payload)) }
     ensures depth { IfOk result (λ said. depth_of (tree_of said.order.payload) ≤ 126) }
-    ensures counts { IfOk result (λ said. (entry : Seen) → In entry said.order.decoys → entry.count ≤ count_max) }
+    ensures counts { IfOk result
+        (λ said. (entry : Seen) → In entry said.order.decoys → entry.count ≤ count_max) }
     ensures refused { IfErr result (IsOrderFileRefused bytes.now) }
 {
     let members = read_members(alloc, bytes, FILE_MAX, &FIELDS)?;
@@ -227,13 +236,14 @@ pub fn read_order(alloc: Global, bytes: &[u8]) -> Result<IssueFile, FileFault>
     Ok(IssueFile { order, key })
 }
 
-/// The order that a file says for who signs elsewhere: as [`read_order`] reads it, but `key` and `alg` are faults, since
-/// whoever signs has the key and names its algorithm.
+/// The order that a file says for who signs elsewhere: as [`read_order`] reads it, but `key` and
+/// `alg` are faults, since whoever signs has the key and names its algorithm.
 pub fn read_unsigned_order(alloc: Global, bytes: &[u8]) -> Result<Order, FileFault>
     ensures ok { IfOk result (IsUnsignedOrderFile bytes.now) }
     ensures ordered { IfOk result (λ order. IsOrdered (tree_of order.payload)) }
     ensures depth { IfOk result (λ order. depth_of (tree_of order.payload) ≤ 126) }
-    ensures counts { IfOk result (λ order. (entry : Seen) → In entry order.decoys → entry.count ≤ count_max) }
+    ensures counts { IfOk result
+        (λ order. (entry : Seen) → In entry order.decoys → entry.count ≤ count_max) }
     ensures refused { IfErr result (IsUnsignedOrderRefused bytes.now) }
 {
     let members = read_members(alloc, bytes, FILE_MAX, &UNSIGNED_FIELDS)?;

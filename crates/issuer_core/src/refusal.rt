@@ -55,8 +55,8 @@ fn place(alloc: Global, error: &IssueError) -> Result<Option<TextBox>, NoMemory>
     Ok(Some(TextBox::from_string(words)))
 }
 
-/// The line that tells of a refusal of 51 to 61, without its line end: `refused`, its number, its name, and its place
-/// where there is one. What is no refusal has no line.
+/// The line that tells of a refusal of 51 to 61, without its line end: `refused`, its number, its
+/// name, and its place where there is one. What is no refusal has no line.
 pub fn refusal_line(alloc: Global, error: &IssueError) -> Result<TextBox, NoMemory>
     ensures { IfOk result (λ line. line ≡ issue_refusal_text error.now) }
 {

@@ -34,7 +34,8 @@ pub(crate) fn spells(text: &TextBox)
     let _bytes = text.as_str().as_bytes();
 }
 
-// The path of the first member with a reserved name. Where there is none, the whole tree was walked.
+// The path of the first member with a reserved name. Where there is none, the
+// whole tree was walked.
 pub(crate) fn first_reserved(alloc: Global, tree: &Tree) -> Result<Option<Path>, NoMemory>
     requires { depth (tree_of tree.now) ≤ json_depth_max }
     ensures first { IfOk result (λ path. path ≡ slice_get (reserved_paths (tree_of tree.now)) 0) }
@@ -50,7 +51,9 @@ pub(crate) fn first_reserved(alloc: Global, tree: &Tree) -> Result<Option<Path>,
 #[cycle(reserved)]
 fn find(alloc: Global, tree: &Tree) -> Result<Option<Vec<TextBox>>, NoMemory>
     requires { depth (tree_of tree.now) ≤ json_depth_max }
-    ensures first { IfOk result (λ steps. option_map (λ s. reverse s.items) steps ≡ slice_get (reserved_paths (tree_of tree.now)) 0) }
+    ensures first { IfOk result
+        (λ steps. option_map (λ s. reverse s.items) steps
+        ≡ slice_get (reserved_paths (tree_of tree.now)) 0) }
     ensures held { IfOk result (λ steps. IfNone steps (FitsMachine (tree_of tree.now))) }
 {
     match tree {
@@ -68,7 +71,9 @@ fn find(alloc: Global, tree: &Tree) -> Result<Option<Vec<TextBox>>, NoMemory>
 #[tactic(auto, using(claim_tree::proofs::Walks::into_element))]
 fn find_in_list(alloc: Global, trees: &TreeList) -> Result<Option<Vec<TextBox>>, NoMemory>
     requires { elements_depth trees.now ≤ 126 }
-    ensures first { IfOk result (λ steps. option_map (λ s. reverse s.items) steps ≡ slice_get (reserved_elements 0 trees.now) 0) }
+    ensures first { IfOk result
+        (λ steps.
+        option_map (λ s. reverse s.items) steps ≡ slice_get (reserved_elements 0 trees.now) 0) }
     ensures held { IfOk result (λ steps. IfNone steps (FitsMachine (array trees.now))) }
 {
     for (i, tree) in trees.trees().iter().enumerate() {
@@ -84,7 +89,9 @@ fn find_in_list(alloc: Global, trees: &TreeList) -> Result<Option<Vec<TextBox>>,
 #[cycle(reserved)]
 fn find_in_object(alloc: Global, trees: &TreeMap) -> Result<Option<Vec<TextBox>>, NoMemory>
     requires { members_depth trees.now ≤ 126 }
-    ensures first { IfOk result (λ steps. option_map (λ s. reverse s.items) steps ≡ slice_get (reserved_paths (object trees.now)) 0) }
+    ensures first { IfOk result
+        (λ steps. option_map (λ s. reverse s.items) steps
+        ≡ slice_get (reserved_paths (object trees.now)) 0) }
     ensures held { IfOk result (λ steps. IfNone steps (FitsMachine (object trees.now))) }
 {
     if trees.get("_sd").is_some() {
@@ -98,7 +105,9 @@ fn find_in_object(alloc: Global, trees: &TreeMap) -> Result<Option<Vec<TextBox>>
 fn find_in_members(alloc: Global, trees: &TreeMap) -> Result<Option<Vec<TextBox>>, NoMemory>
     requires depth { members_depth trees.now ≤ 126 }
     requires no_sd { member_named trees.now sd_name ≡ None }
-    ensures first { IfOk result (λ steps. option_map (λ s. reverse s.items) steps ≡ slice_get (reserved_paths (object trees.now)) 0) }
+    ensures first { IfOk result
+        (λ steps. option_map (λ s. reverse s.items) steps
+        ≡ slice_get (reserved_paths (object trees.now)) 0) }
     ensures held { IfOk result (λ steps. IfNone steps (FitsMachine (object trees.now))) }
 {
     for (name, tree) in trees.members() {
@@ -114,7 +123,11 @@ fn find_in_members(alloc: Global, trees: &TreeMap) -> Result<Option<Vec<TextBox>
 #[cycle(reserved)]
 fn find_at(alloc: Global, name: &TextBox, tree: &Tree) -> Result<Option<Vec<TextBox>>, NoMemory>
     requires { depth (tree_of tree.now) ≤ json_depth_max }
-    ensures first { IfOk result (λ steps. option_map (λ s. name.now ∷ reverse s.items) steps ≡ slice_get (own_reserved_path name.now ++ map (λ p. name.now ∷ p) (reserved_paths (tree_of tree.now))) 0) }
+    ensures first { IfOk result
+        (λ steps. option_map (λ s. name.now ∷ reverse s.items) steps
+        ≡ slice_get
+        (own_reserved_path name.now
+        ++ map (λ p. name.now ∷ p) (reserved_paths (tree_of tree.now))) 0) }
     ensures name { IfOk result (λ steps. IfNone steps (IsUtf8 name.now)) }
     ensures held { IfOk result (λ steps. IfNone steps (FitsMachine (tree_of tree.now))) }
 {

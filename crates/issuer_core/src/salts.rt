@@ -27,7 +27,8 @@ fn next_piece(rng: &mut ChaCha20Rng) -> [u8; 16]
 // The first salts of a seed.
 pub(crate) fn salts_of(alloc: Global, seed: &[u8; 32], count: usize) -> Result<TextList, NoMemory>
     ensures count { IfOk result (λ salts. length salts ≡ count) }
-    ensures each { IfOk result (λ salts. (k : ℕ) → k < count → slice_get salts k ≡ Some (salt_of seed.now k)) }
+    ensures each { IfOk result
+        (λ salts. (k : ℕ) → k < count → slice_get salts k ≡ Some (salt_of seed.now k)) }
 {
     let mut rng = ChaCha20Rng::from_seed(*seed);
     let mut salts = TextList::new(alloc);

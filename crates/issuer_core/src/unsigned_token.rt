@@ -13,7 +13,8 @@ use hmac_sign::{Signer, UnsignedJwt};
 use sd_outside::TextList;
 use std::alloc::Global;
 
-/// A token of an issuer that is not signed yet: what is to be signed of its JWT, and the disclosures.
+/// A token of an issuer that is not signed yet: what is to be signed of its
+/// JWT, and the disclosures.
 #[derive(Debug, Drop)]
 pub struct UnsignedToken {
     pub jwt: UnsignedJwt,
@@ -21,8 +22,8 @@ pub struct UnsignedToken {
 }
 
 impl UnsignedToken {
-    /// The token with these bytes as the issuer's signature, whoever made them: the compact parts of an SD-JWT without a
-    /// key binding token. It may be too long with them.
+    /// The token with these bytes as the issuer's signature, whoever made them: the compact parts
+    /// of an SD-JWT without a key binding token. It may be too long with them.
     pub fn signed(self, alloc: Global, signature: &[u8]) -> Result<Parts, IssueError>
         ensures signed { IfOk result (IsTokenWith self signature.now) }
         ensures words { AreUnsignedWords self → 0 < length signature.now → IfOk result AreWords }
@@ -38,7 +39,8 @@ impl UnsignedToken {
         ensures signed { IfOk result (IsTokenBy self (S.good signer.old)) }
         ensures short { IfOk result (λ parts. length (compact parts) ≤ issue_max) }
         ensures refused { IfErr result (IsTokenUnmade self (S.good signer.old)) }
-        ensures failed { IsErrOf result IssueError.SignFailed → Rose (S.faults signer.old) (S.faults signer.new) }
+        ensures failed { IsErrOf result IssueError.SignFailed
+            → Rose (S.faults signer.old) (S.faults signer.new) }
 
         // what stays
         ensures same_good { Agree (S.good signer.new) (S.good signer.old) }
@@ -66,7 +68,8 @@ fn token_of(signed: JwtParts, disclosures: TextList) -> Parts
 // Refusal 61: the compact text is too long.
 fn within_limit(parts: Parts) -> Result<Parts, IssueError>
     ensures short { IfOk result (λ same. (same ≡ parts) × (length (compact parts) ≤ issue_max)) }
-    ensures long { IfErr result (λ error. (error ≡ IssueError.TooLong) × (issue_max < length (compact parts))) }
+    ensures long { IfErr result
+        (λ error. (error ≡ IssueError.TooLong) × (issue_max < length (compact parts))) }
 {
     if is_longer_than(&parts, ISSUE_MAX) {
         return Err(IssueError::TooLong);

@@ -1,4 +1,5 @@
--- The JSON serializations of an SD-JWT, RFC 9901 section 8 and RFC 7515 section 7.2: the members of an object, and the token that they say.
+-- The JSON serializations of an SD-JWT, RFC 9901 section 8 and RFC 7515 section 7.2: the members of
+-- an object, and the token that they say.
 use Rattle.std.specs.Prelude.{◌≡◌, ◌<◌, ℕ, Bool, true, false, ◌||◌, ◌&&◌, ◌⊎◌, List, [], Option, Some, None}
 use Rattle.std.specs.List.{AllByRecursion}
 use Rattle.std.specs.Option.{is_some}
@@ -43,7 +44,8 @@ IsObjectOf t ms = t ≡ object ms
 
 -- ---- an entry: a signature with what belongs to it
 
--- the unprotected header: the disclosures, the key binding token, and its other members. What is not there is said to be none
+-- the unprotected header: the disclosures, the key binding token, and its other
+-- members. What is not there is said to be none
 pub record HeaderSays (header : Members) (token : Token) : Type 0 where
   pub disclosures : SaysOr AreWordTrees [] (found_part header Disclosures) token.parts.disclosures
   pub binding : MaySay IsJwtTree (found_part header KbJwt) token.parts.binding
@@ -78,7 +80,8 @@ has_beside ms = has_part ms Protected || has_part ms Signature || has_part ms He
 -- the header has a member that only that of the first entry may have (RFC 9901 section 8.1)
 abbrev pub has_first_only : Option Tree → Bool
 has_first_only None = false
-has_first_only (Some header) = is_some (get header (part_word Disclosures)) || is_some (get header (part_word KbJwt))
+has_first_only (Some header) =
+    is_some (get header (part_word Disclosures)) || is_some (get header (part_word KbJwt))
 
 -- the entry at this place is not the first, and has such a header
 pub record IsStray (entries : Elements) (place : ℕ) : Type 0 where

@@ -39,8 +39,10 @@ pub record ListHas (list : Tree) (entries : Entries) : Type 0 where
 
 -- the object is flattened and itself the entry, or is general and has these entries
 pub data HasEntries (ms : Members) (entries : Entries) : Type 0 where
-  itself : found_part ms Signatures ≡ None → entries.first ≡ ms → entries.stray ≡ None → HasEntries ms entries
-  listed : (list : Tree) → found_part ms Signatures ≡ Some list → ListHas list entries → has_beside ms ≡ false → HasEntries ms entries
+  itself : found_part ms Signatures ≡ None → entries.first ≡ ms → entries.stray ≡ None
+      → HasEntries ms entries
+  listed : (list : Tree) → found_part ms Signatures ≡ Some list → ListHas list entries
+      → has_beside ms ≡ false → HasEntries ms entries
 
 -- the members of an object say the token
 pub record MembersSay (ms : Members) (token : Token) : Type 0 where

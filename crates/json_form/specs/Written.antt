@@ -1,4 +1,5 @@
--- The JSON serializations that are written, RFC 9901 section 8: the object of which the text is the compact JSON.
+-- The JSON serializations that are written, RFC 9901 section 8: the object of
+-- which the text is the compact JSON.
 use Rattle.std.specs.Prelude.{Option, Some, None}
 use Rattle.claim_tree.specs.Tree.{text, Tree, leaf, array, object, no_elements, element, Members, no_members, member, inserted}
 use Rattle.claim_tree.specs.FileForms.{text_elements}
@@ -13,15 +14,22 @@ abbrev pub with_binding : Option JwtParts → Members → Members
 with_binding None ms = ms
 with_binding (Some j) ms = inserted ms (part_word KbJwt) (leaf (text (jwt j)))
 
--- the unprotected header: always the disclosures, the key binding token where there is one, and the other members
+-- the unprotected header: always the disclosures, the key binding token where
+-- there is one, and the other members
 abbrev pub written_header : Token → Members
-written_header token = inserted (with_binding token.parts.binding token.outer) (part_word Disclosures) (array (text_elements token.parts.disclosures))
+written_header token =
+    inserted (with_binding token.parts.binding token.outer) (part_word Disclosures)
+    (array (text_elements token.parts.disclosures))
 
 abbrev pub signature_members : Token → Members
-signature_members token = member (part_word Protected) (leaf (text token.parts.signed.protected)) (member (part_word Signature) (leaf (text token.parts.signed.signature)) no_members)
+signature_members token =
+    member (part_word Protected) (leaf (text token.parts.signed.protected))
+    (member (part_word Signature) (leaf (text token.parts.signed.signature)) no_members)
 
 abbrev pub flat_members : Token → Members
-flat_members token = member (part_word Header) (object (written_header token)) (member (part_word Payload) (leaf (text token.parts.signed.payload)) (signature_members token))
+flat_members token =
+    member (part_word Header) (object (written_header token))
+    (member (part_word Payload) (leaf (text token.parts.signed.payload)) (signature_members token))
 
 abbrev pub flat_of : Token → Tree
 flat_of token = object (flat_members token)
@@ -31,7 +39,10 @@ abbrev pub entry_of : Token → Members
 entry_of token = member (part_word Header) (object (written_header token)) (signature_members token)
 
 abbrev pub general_members : Token → Members
-general_members token = member (part_word Payload) (leaf (text token.parts.signed.payload)) (member (part_word Signatures) (array (element (object (entry_of token)) no_elements)) no_members)
+general_members token =
+    member (part_word Payload) (leaf (text token.parts.signed.payload))
+    (member (part_word Signatures) (array (element (object (entry_of token)) no_elements))
+    no_members)
 
 abbrev pub general_of : Token → Tree
 general_of token = object (general_members token)

@@ -1,9 +1,9 @@
 //! Tokens as they come from a file, in the serializations of RFC 9901.
 //!
-//! [`read_token`] reads the compact serialization (section 4) and, where a text begins with `{`, the JSON ones,
-//! flattened and general (section 8). [`TokenText`] does the same without a copy of a compact text. A [`TokenView`]
-//! borrows a token, wherever its parts stand. [`parse_json`] reads the JSON ones alone; [`print_flat`] and
-//! [`print_general`] write them.
+//! [`read_token`] reads the compact serialization (section 4) and, where a text begins with `{`,
+//! the JSON ones, flattened and general (section 8). [`TokenText`] does the same without a copy of
+//! a compact text. A [`TokenView`] borrows a token, wherever its parts stand. [`parse_json`] reads
+//! the JSON ones alone; [`print_flat`] and [`print_general`] write them.
 #![tactic(auto)]
 
 mod disclosures;

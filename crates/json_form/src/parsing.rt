@@ -16,7 +16,8 @@ use std::alloc::Global;
 // The token that the members of an object say.
 fn token_of(alloc: Global, members: TreeMap) -> Result<Token, JsonFormError>
     ensures ok { IfOk result (MembersSay members) }
-    ensures refused { (place : ThePlace) → IsErrOf result (JsonFormError.Fault place) → IsLowestBy row_of (ObjectFails members) place }
+    ensures refused { (place : ThePlace) → IsErrOf result (JsonFormError.Fault place)
+        → IsLowestBy row_of (ObjectFails members) place }
 {
     let mut members = members;
     let payload = take_word(&mut members, Part::Payload)?;
@@ -30,16 +31,18 @@ fn token_of(alloc: Global, members: TreeMap) -> Result<Token, JsonFormError>
 
 /// The token of its flattened or general JSON serialization (RFC 9901 section 8).
 ///
-/// A text with a member `signatures` is general, whatever stands there, and its first entry is read. Members that the
-/// form does not know are left out as the text is read.
+/// A text with a member `signatures` is general, whatever stands there, and its first entry is
+/// read. Members that the form does not know are left out as the text is read.
 ///
-/// The error names the first place at which the text fails. In this order it is judged as JSON, for whole numbers and
-/// as an object; then `payload`, `signatures`, `protected`, `signature`, `header`, `disclosures` and `kb_jwt`; and at
-/// last the later entries, whose `header` has neither `disclosures` nor `kb_jwt`.
+/// The error names the first place at which the text fails. In this order it is
+/// judged as JSON, for whole numbers and as an object; then `payload`, `signatures`,
+/// `protected`, `signature`, `header`, `disclosures` and `kb_jwt`; and at last the
+/// later entries, whose `header` has neither `disclosures` nor `kb_jwt`.
 pub fn parse_json(alloc: Global, text: &[u8]) -> Result<Token, JsonFormError>
     ensures ok { IfOk result (λ token. IsJson token text.now) }
     ensures printable { IfOk result IsPrintable }
-    ensures fault { (place : ThePlace) → IsErrOf result (JsonFormError.Fault place) → IsJsonPlace text.now place }
+    ensures fault { (place : ThePlace) → IsErrOf result (JsonFormError.Fault place)
+        → IsJsonPlace text.now place }
 {
     let header = Part::Header.word();
     let names = [

@@ -24,7 +24,8 @@ fn put(alloc: Global, members: &mut TreeMap, part: Part, tree: Tree) -> Result<(
 }
 
 fn put_text(alloc: Global, members: &mut TreeMap, part: Part, text: &str) -> Result<(), NoMemory>
-    ensures { OnOk result (members.new ≡ inserted members.old (part_word part) (leaf (text_leaf text.now))) }
+    ensures { OnOk result
+        (members.new ≡ inserted members.old (part_word part) (leaf (text_leaf text.now))) }
 {
     let text = TextBox::make(alloc, text)?;
     put(alloc, members, part, Tree::Text(text))
@@ -73,7 +74,8 @@ fn entry_of(alloc: Global, token: &TokenView<'_>) -> Result<TreeMap, NoMemory>
     Ok(entry)
 }
 
-/// The flattened JSON serialization of a token (RFC 9901 section 8): compact JSON, which is read as this token.
+/// The flattened JSON serialization of a token (RFC 9901 section 8): compact
+/// JSON, which is read as this token.
 pub fn print_flat(alloc: Global, token: &Token) -> Result<TextBox, NoMemory>
     requires printable { IsPrintable token.now }
     ensures text { IfOk result (λ text. text ≡ json_text (flat_of token.now)) }
@@ -93,8 +95,8 @@ pub fn flat_text(alloc: Global, token: &TokenView<'_>) -> Result<TextBox, NoMemo
     write(alloc, &Tree::Object(members))
 }
 
-/// The general JSON serialization of a token, with one signature: compact JSON. It is read as this token where the
-/// members of its unprotected header leave room for the four levels around them.
+/// The general JSON serialization of a token, with one signature: compact JSON. It is read as this
+/// token where the members of its unprotected header leave room for the four levels around them.
 pub fn print_general(alloc: Global, token: &Token) -> Result<TextBox, NoMemory>
     requires printable { IsPrintable token.now }
     ensures text { IfOk result (λ text. text ≡ json_text (general_of token.now)) }

@@ -49,7 +49,8 @@ fn take_header(alloc: Global, entry: &mut TreeMap) -> Result<TreeMap, JsonPlace>
 // Takes the disclosures out of the unprotected header.
 fn take_disclosures(alloc: Global, header: &mut TreeMap) -> Result<TextList, JsonFormError>
     ensures ok { IfOk result (SaysOr AreWordTrees [] (found_part header.old Disclosures)) }
-    ensures refused { (place : ThePlace) → IsErrOf result (JsonFormError.Fault place) → IsWrongMember AreWordTrees header.old Disclosures place }
+    ensures refused { (place : ThePlace) → IsErrOf result (JsonFormError.Fault place)
+        → IsWrongMember AreWordTrees header.old Disclosures place }
     ensures others { header.new ≡ removed header.old (part_word Disclosures) }
 {
     let Some(tree) = header.remove(Part::Disclosures.word()) else {
@@ -64,7 +65,8 @@ fn take_disclosures(alloc: Global, header: &mut TreeMap) -> Result<TextList, Jso
 // Takes the key binding token out of the unprotected header.
 fn take_binding(alloc: Global, header: &mut TreeMap) -> Result<Option<JwtParts>, JsonFormError>
     ensures ok { IfOk result (MaySay IsJwtTree (found_part header.old KbJwt)) }
-    ensures refused { (place : ThePlace) → IsErrOf result (JsonFormError.Fault place) → IsWrongMember IsJwtTree header.old KbJwt place }
+    ensures refused { (place : ThePlace) → IsErrOf result (JsonFormError.Fault place)
+        → IsWrongMember IsJwtTree header.old KbJwt place }
     ensures others { header.new ≡ removed header.old (part_word KbJwt) }
 {
     let Some(tree) = header.remove(Part::KbJwt.word()) else {
@@ -84,7 +86,8 @@ pub(crate) fn read_entry(
 ) -> Result<Token, JsonFormError>
     ensures ok { IfOk result (EntrySays entry) }
     ensures payload { IfOk result (λ token. token.parts.signed.payload ≡ payload) }
-    ensures refused { (place : ThePlace) → IsErrOf result (JsonFormError.Fault place) → IsLowestBy row_of (EntryFails entry) place }
+    ensures refused { (place : ThePlace) → IsErrOf result (JsonFormError.Fault place)
+        → IsLowestBy row_of (EntryFails entry) place }
 {
     let mut entry = entry;
     let protected = take_word(&mut entry, Part::Protected)?;

@@ -1,4 +1,5 @@
-// The entries of a JSON serialization: one in the flattened form, a list of them in the general one.
+// The entries of a JSON serialization: one in the flattened form, a list of
+// them in the general one.
 ghost use Rattle.std.specs.Prelude.{◌≡◌, IfOk, IfErr, IfSome, IfNone};
 ghost use Rattle.claim_tree.specs.Tree.{Elements, Members, get as get_of};
 ghost use Rattle.claim_tree.specs.View.{tree_of};
@@ -14,7 +15,8 @@ ghost use Rattle.json_form.specs.MembersRead.{IsFirstStray, ListHas, HasEntries}
 use claim_tree::{Tree, TreeMap, get};
 use compact_form::{JsonPlace, Part};
 
-// The entry that is read, and the place of the first later one with a member that only the first may have.
+// The entry that is read, and the place of the first later one with a member
+// that only the first may have.
 #[derive(Drop)]
 pub(crate) struct Entries {
     pub(crate) first: TreeMap,
@@ -73,7 +75,8 @@ fn first_stray(entries: &[Tree]) -> Option<usize>
 // The entries of a list.
 fn listed_in(tree: Tree) -> Option<Entries>
     ensures some { IfSome result (ListHas (tree_of tree)) }
-    ensures none { IfNone result ((first : Members) (later : Elements) → AreEntries (tree_of tree) first later → ⊥) }
+    ensures none { IfNone result
+        ((first : Members) (later : Elements) → AreEntries (tree_of tree) first later → ⊥) }
 {
     let Tree::List(list) = tree else {
         return None;

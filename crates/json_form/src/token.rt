@@ -14,8 +14,8 @@ use std::alloc::Global;
 pub struct Token {
     /// The issuer's JWT, the disclosures and the key binding token.
     pub parts: Parts,
-    /// The members of the unprotected header other than `disclosures` and `kb_jwt` (RFC 9901 section 8). A compact
-    /// token has none.
+    /// The members of the unprotected header other than `disclosures` and `kb_jwt` (RFC 9901
+    /// section 8). A compact token has none.
     pub outer: TreeMap,
 }
 
@@ -74,12 +74,14 @@ impl From<JsonFormError> for TokenError {
 
 /// The token of a text as it comes from a file, or the lowest condition of 1 to 3 that fails.
 ///
-/// The blanks at both ends are cut off first. A text that then begins with `{` is a JSON serialization, flattened or
-/// general (RFC 9901 section 8); any other is the compact one (section 4).
+/// The blanks at both ends are cut off first. A text that then begins with `{`
+/// is a JSON serialization, flattened or general (RFC 9901 section 8); any
+/// other is the compact one (section 4).
 pub fn read_token(alloc: Global, text: &[u8]) -> Result<Token, TokenError>
     ensures ok { IfOk result (IsToken text.now) }
     ensures printable { IfOk result IsPrintable }
-    ensures refused { (fault : TheFault) → IsErrOf result (TokenError.Fault fault) → IsTextRefused text.now fault }
+    ensures refused { (fault : TheFault) → IsErrOf result (TokenError.Fault fault)
+        → IsTextRefused text.now fault }
 {
     let token = match TokenText::read(alloc, text) {
         Ok(token) => token,

@@ -25,8 +25,8 @@ enum Source<'a> {
     Owned(Parts, TextBox),
 }
 
-/// A token whose parts can be borrowed from one compact text: the text that was read where it is the compact
-/// serialization, else one that is made of the parts. Contracts see the token.
+/// A token whose parts can be borrowed from one compact text: the text that was read where it is
+/// the compact serialization, else one that is made of the parts. Contracts see the token.
 #[derive(Debug, Drop)]
 pub struct TokenText<'a> {
     source: Source<'a>,
@@ -53,7 +53,8 @@ fn read_compact<'a>(alloc: Global, text: &'a [u8]) -> Result<TokenText<'a>, Toke
     requires plain { is_json_test (trimmed text.now) ≡ false }
     ensures ok { IfOk result (IsToken text.now) }
     ensures printable { IfOk result IsPrintable }
-    ensures refused { (fault : TheFault) → IsErrOf result (TokenError.Fault fault) → IsTextRefused text.now fault }
+    ensures refused { (fault : TheFault) → IsErrOf result (TokenError.Fault fault)
+        → IsTextRefused text.now fault }
     ensures no_memory { result ≢ Err TokenError.Memory }
 {
     let view = read_view(text)?;
@@ -86,7 +87,8 @@ fn read_json<'a>(alloc: Global, text: &[u8], json: &[u8]) -> Result<TokenText<'a
     requires json { is_json_test json.now ≡ true }
     ensures ok { IfOk result (IsToken text.now) }
     ensures printable { IfOk result IsPrintable }
-    ensures refused { (fault : TheFault) → IsErrOf result (TokenError.Fault fault) → IsTextRefused text.now fault }
+    ensures refused { (fault : TheFault) → IsErrOf result (TokenError.Fault fault)
+        → IsTextRefused text.now fault }
 {
     if text.len() > FILE_MAX {
         return Err(TokenError::Fault(Condition::TooLong.fault()));
@@ -114,15 +116,17 @@ fn view_of(compact: &TextBox) -> View<'_>
 }
 
 impl<'a> TokenText<'a> {
-    /// The token of a text as it comes from a file, or the lowest condition of 1 to 3 that fails: what
-    /// [`read_token`](crate::read_token) answers, without a copy of a compact text.
+    /// The token of a text as it comes from a file, or the lowest condition of 1 to 3 that fails:
+    /// what [`read_token`](crate::read_token) answers, without a copy of a compact text.
     pub fn read(alloc: Global, text: &'a [u8]) -> Result<TokenText<'a>, TokenError>
         ensures ok { IfOk result (IsToken text.now) }
         ensures printable { IfOk result IsPrintable }
-        ensures refused { (fault : TheFault) → IsErrOf result (TokenError.Fault fault) → IsTextRefused text.now fault }
+        ensures refused { (fault : TheFault) → IsErrOf result (TokenError.Fault fault)
+            → IsTextRefused text.now fault }
 
         // a compact text is read without memory
-        ensures no_memory { is_json_test (trimmed text.now) ≡ false → result ≢ Err TokenError.Memory }
+        ensures no_memory { is_json_test (trimmed text.now) ≡ false
+            → result ≢ Err TokenError.Memory }
     {
         let token = trim(text);
         if is_json(token) {
@@ -142,7 +146,8 @@ impl<'a> TokenText<'a> {
         }
     }
 
-    /// Its compact text up to and with the last tilde, which a key binding token hashes (RFC 9901 section 4.3.1).
+    /// Its compact text up to and with the last tilde, which a key binding
+    /// token hashes (RFC 9901 section 4.3.1).
     pub fn hashed(&self) -> &str
         ensures { result.now ≡ hashed_of self.now.parts }
     {

@@ -17,8 +17,8 @@ enum Lent<'a> {
     Apart(&'a Parts),
 }
 
-/// A token that is borrowed: its parts, wherever they stand, and what a JSON serialization says beside them. Contracts
-/// see the token.
+/// A token that is borrowed: its parts, wherever they stand, and what a JSON serialization says
+/// beside them. Contracts see the token.
 #[derive(Debug, Drop)]
 pub struct TokenView<'a> {
     parts: Lent<'a>,
@@ -103,8 +103,8 @@ impl<'a> TokenView<'a> {
         }
     }
 
-    /// The members of the unprotected header other than `disclosures` and `kb_jwt` (RFC 9901 section 8). A compact
-    /// token has none.
+    /// The members of the unprotected header other than `disclosures` and `kb_jwt` (RFC 9901
+    /// section 8). A compact token has none.
     pub fn outer(&self) -> &'a TreeMap
         ensures { result.now ≡ self.now.outer }
     {

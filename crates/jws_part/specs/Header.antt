@@ -1,4 +1,5 @@
--- The header of a JWS, RFC 7515 sections 4 and 7.2.1: the members of the protected one, and of an outer one beside it.
+-- The header of a JWS, RFC 7515 sections 4 and 7.2.1: the members of the
+-- protected one, and of an outer one beside it.
 use Rattle.std.specs.Prelude.{◌≡◌, Bool, ◌||◌, true, false, Option, Some, None, codes}
 use Rattle.std.specs.List.{list_any}
 use Rattle.std.specs.Option.{is_some, option_map, option_or}
@@ -21,15 +22,18 @@ shares_name ms outer = list_any (has_name ms) (names outer)
 abbrev pub has_crit : Members → Members → Bool
 has_crit ms outer = has_name ms (codes "crit") || has_name outer (codes "crit")
 
--- what the two headers say together: a text under each name that is there, the key in either of them
+-- what the two headers say together: a text under each name that is there, the
+-- key in either of them
 pub record HeadersSay (ms outer : Members) (header : Header) : Type 0 where
   pub apart : shares_name ms outer ≡ false
   pub alg : member_named ms (codes "alg") ≡ Some (text_tree header.alg)
   pub typ : member_named ms (codes "typ") ≡ option_map text_tree header.typ
-  pub kid : option_or (member_named ms (codes "kid")) (member_named outer (codes "kid")) ≡ option_map text_tree header.kid
+  pub kid : option_or (member_named ms (codes "kid")) (member_named outer (codes "kid"))
+      ≡ option_map text_tree header.kid
 
 -- the protected header is read, both together say this, and whether one of them is critical
-pub record ReadsHeader (protected : Text) (outer : Members) (header : Header) (critical : Bool) : Type 0 where
+pub record ReadsHeader (protected : Text) (outer : Members) (header : Header) (critical : Bool)
+    : Type 0 where
   pub members : Members
   pub carried : Carries protected (object members)
   pub says : HeadersSay members outer header
@@ -61,7 +65,8 @@ pub data SayNothing (ms outer : Members) : Type 0 where
 -- why the headers are not read
 pub data IsHeaderUnreadable (protected : Text) (outer : Members) : Type 0 where
   no_object : IsNoObject protected → IsHeaderUnreadable protected outer
-  nothing_said : (ms : Members) → Carries protected (object ms) → SayNothing ms outer → IsHeaderUnreadable protected outer
+  nothing_said : (ms : Members) → Carries protected (object ms) → SayNothing ms outer
+      → IsHeaderUnreadable protected outer
 
 -- the text as a member, where it is some, and then these
 abbrev pub given : Text → Option Text → Members → Members
@@ -70,4 +75,6 @@ given name (Some s) ms = member name (text_tree s) ms
 
 -- the members that are written of a header
 abbrev pub header_members : Header → Members
-header_members h = member (codes "alg") (text_tree h.alg) (given (codes "kid") h.kid (given (codes "typ") h.typ no_members))
+header_members h =
+    member (codes "alg") (text_tree h.alg)
+    (given (codes "kid") h.kid (given (codes "typ") h.typ no_members))

@@ -75,7 +75,8 @@ pub(crate) fn read_object(
     }
 }
 
-/// The JSON object that a payload carries: base64url of its JSON text. Of two members of one name the last is kept.
+/// The JSON object that a payload carries: base64url of its JSON text. Of two
+/// members of one name the last is kept.
 pub fn read_body(alloc: Global, payload: &str) -> Result<Tree, BodyError>
     ensures ok { IfOk result (λ t. IsBody payload.now (tree_of t)) }
     ensures ordered { IfOk result (λ t. IsOrdered (tree_of t)) }
@@ -110,7 +111,8 @@ fn part_of(alloc: Global, text: &str) -> Result<TextBox, NoMemory>
 /// The payload of a tree: base64url of its compact JSON text.
 pub fn write_body(alloc: Global, tree: &Tree) -> Result<TextBox, NoMemory>
     ensures ok { IfOk result (λ text. text ≡ b64 (json_text (tree_of tree.now))) }
-    ensures back { depth_of (tree_of tree.now) ≤ json_depth_max → IfOk result (λ text. Carries text (tree_of tree.now)) }
+    ensures back { depth_of (tree_of tree.now) ≤ json_depth_max
+        → IfOk result (λ text. Carries text (tree_of tree.now)) }
 {
     let text = write(alloc, tree)?;
     part_of(alloc, text.as_str())

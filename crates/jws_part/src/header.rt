@@ -29,8 +29,8 @@ pub struct Header {
 pub enum HeaderError {
     /// There was no memory for it.
     Memory,
-    /// The protected header is not read, lacks `alg`, or shares a name with the outer one; or `alg`, `kid` or `typ` is
-    /// no text.
+    /// The protected header is not read, lacks `alg`, or shares a name with the outer one; or
+    /// `alg`, `kid` or `typ` is no text.
     Unreadable,
     /// One of the headers has a member `crit`. No extension is understood.
     Critical,
@@ -87,14 +87,17 @@ fn said(alloc: Global, members: &TreeMap, outer: &TreeMap) -> Result<Header, Bod
     }
 }
 
-/// The header that a protected one carries, base64url of its JSON text, with the members of an outer one beside it
-/// (RFC 7515 section 7.2.1).
+/// The header that a protected one carries, base64url of its JSON text, with the members of an
+/// outer one beside it (RFC 7515 section 7.2.1).
 ///
-/// `alg` and `typ` are those of the protected header, and `kid` is that of the protected or of the outer one.
+/// `alg` and `typ` are those of the protected header, and `kid` is that of the
+/// protected or of the outer one.
 pub fn read_header(alloc: Global, protected: &str, outer: &TreeMap) -> Result<Header, HeaderError>
     ensures ok { IfOk result (IsHeader protected.now outer.now) }
-    ensures unreadable { IsErrOf result HeaderError.Unreadable → IsHeaderUnreadable protected.now outer.now }
-    ensures critical { IsErrOf result HeaderError.Critical → IsHeaderCritical protected.now outer.now }
+    ensures unreadable { IsErrOf result HeaderError.Unreadable
+        → IsHeaderUnreadable protected.now outer.now }
+    ensures critical { IsErrOf result HeaderError.Critical
+        → IsHeaderCritical protected.now outer.now }
 {
     read_header_with(alloc, &mut JsonReader::new(alloc), protected, outer)
 }
@@ -107,8 +110,10 @@ pub fn read_header_with(
     outer: &TreeMap,
 ) -> Result<Header, HeaderError>
     ensures ok { IfOk result (IsHeader protected.now outer.now) }
-    ensures unreadable { IsErrOf result HeaderError.Unreadable → IsHeaderUnreadable protected.now outer.now }
-    ensures critical { IsErrOf result HeaderError.Critical → IsHeaderCritical protected.now outer.now }
+    ensures unreadable { IsErrOf result HeaderError.Unreadable
+        → IsHeaderUnreadable protected.now outer.now }
+    ensures critical { IsErrOf result HeaderError.Critical
+        → IsHeaderCritical protected.now outer.now }
 {
     let members = read_object(alloc, reader, protected)?;
     let header = said(alloc, &members, outer)?;

@@ -5,7 +5,8 @@ ghost use Rattle.jws_part.specs.declared.header.Header.{Header};
 ghost use Rattle.jws_part.specs.Part.{IsBody, IsNoObject};
 ghost use Rattle.jws_part.specs.Header.{IsHeader, IsHeaderCritical, IsHeaderUnreadable};
 
-/// A protected header, with an outer one, is read as one header, is critical or is unreadable, and never two of these.
+/// A protected header, with an outer one, is read as one header, is critical or
+/// is unreadable, and never two of these.
 pub fn one_header()
     ensures one { (protected : List ℕ) (outer : Members) (header other : Header) →
         IsHeader protected outer header → IsHeader protected outer other → header ≡ other }

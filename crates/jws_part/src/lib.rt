@@ -1,7 +1,7 @@
 //! The header and the payload of a JWS (RFC 7515): base64url texts of JSON objects.
 //!
-//! Both are read from such a text, and written to one. No extension of headers is understood, so one with `crit`
-//! is refused by name. The times that a payload claims are judged here too.
+//! Both are read from such a text, and written to one. No extension of headers is understood, so
+//! one with `crit` is refused by name. The times that a payload claims are judged here too.
 #![tactic(auto)]
 
 mod body;

@@ -50,7 +50,8 @@ pub(crate) fn text_named<'a>(
     members: &'a TreeMap,
     name: &str,
 ) -> Result<Option<&'a TextBox>, NotText>
-    ensures ok { IfOk result (λ text. member_named members.now name.now ≡ option_map text_tree (option_copied text)) }
+    ensures ok { IfOk result
+        (λ text. member_named members.now name.now ≡ option_map text_tree (option_copied text)) }
     ensures odd { IfErr result (λ _. IsNoText members.now name.now) }
 {
     match members.get(name) {
@@ -76,7 +77,8 @@ pub(crate) fn put_text(
     name: &str,
     text: Option<&TextBox>,
 ) -> Result<(), NoMemory>
-    ensures ok { OnOk result (members.new ≡ with_text members.old name.now (option_copied text.entry)) }
+    ensures ok { OnOk result
+        (members.new ≡ with_text members.old name.now (option_copied text.entry)) }
 {
     if let Some(text) = text {
         let name = TextBox::make(alloc, name)?;

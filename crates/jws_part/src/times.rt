@@ -8,7 +8,8 @@ use claim_tree::{Tree, Whole, get};
 /// The whole number that a claim is, as the moments of RFC 7519 section 2 are.
 pub fn moment(payload: &Tree, name: &str) -> Option<Whole>
     ensures whole { IfSome result (IsMoment (tree_of payload.now) name.now) }
-    ensures none { IfNone result ((moment : ℤ) → IsMoment (tree_of payload.now) name.now moment → ⊥) }
+    ensures none { IfNone result
+        ((moment : ℤ) → IsMoment (tree_of payload.now) name.now moment → ⊥) }
 {
     match get(payload, name) {
         Some(Tree::Whole(moment)) => Some(*moment),
@@ -33,8 +34,8 @@ pub fn is_time_unreadable(payload: &Tree) -> bool
     is_no_moment(payload, "exp") || is_no_moment(payload, "nbf")
 }
 
-/// Whether a payload is expired, where the clocks may differ by the skew (RFC 7519 section 4.1.4). Times are in
-/// seconds.
+/// Whether a payload is expired, where the clocks may differ by the skew (RFC
+/// 7519 section 4.1.4). Times are in seconds.
 pub fn is_expired(payload: &Tree, skew: u32, now: u64) -> bool
     ensures { IsTrue result ↔ IsExpired (tree_of payload.now) skew now }
 {
@@ -44,7 +45,8 @@ pub fn is_expired(payload: &Tree, skew: u32, now: u64) -> bool
     }
 }
 
-/// Whether a payload is not yet valid, where the clocks may differ by the skew (RFC 7519 section 4.1.5).
+/// Whether a payload is not yet valid, where the clocks may differ by the skew
+/// (RFC 7519 section 4.1.5).
 pub fn is_not_yet(payload: &Tree, skew: u32, now: u64) -> bool
     ensures { IsTrue result ↔ IsNotYet (tree_of payload.now) skew now }
 {

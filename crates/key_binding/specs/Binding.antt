@@ -25,35 +25,45 @@ pub record Claims : Type 0 where
 
 -- the claims of one that is made over a text, for an audience, with a nonce, at a moment
 abbrev pub claims_for : HashAlg → Text → Text → Text → ℕ → Claims
-claims_for hash hashed aud nonce iat = record { aud = aud; iat = pos iat; nonce = nonce; sd_hash = digest_of hash hashed }
+claims_for hash hashed aud nonce iat =
+    record { aud = aud; iat = pos iat; nonce = nonce; sd_hash = digest_of hash hashed }
 
 abbrev pub claim_members : Claims → Members
 claim_members claims =
     member (codes "aud") (text_tree claims.aud)
-    (member (codes "iat") (leaf (whole claims.iat)) (member (codes "nonce") (text_tree claims.nonce) (member (codes "sd_hash") (text_tree claims.sd_hash) no_members)))
+    (member (codes "iat") (leaf (whole claims.iat))
+    (member (codes "nonce") (text_tree claims.nonce)
+    (member (codes "sd_hash") (text_tree claims.sd_hash) no_members)))
 
 -- the header of each, by the name of the algorithm that signs
 abbrev pub binding_header : Text → Header
 binding_header alg = record { alg = alg; kid = None; typ = Some (codes "kb+jwt") }
 
 -- what is to be signed is that of these claims: its header and its payload are compact JSON
-pub record IsUnsignedBinding (alg : Text) (hash : HashAlg) (hashed aud nonce : Text) (iat : ℕ) (unsigned : UnsignedJwt) : Type 0 where
-  pub protected : unsigned.protected ≡ b64 (json_text (object (header_members (binding_header alg))))
-  pub payload : unsigned.payload ≡ b64 (json_text (object (claim_members (claims_for hash hashed aud nonce iat))))
+pub record IsUnsignedBinding (alg : Text) (hash : HashAlg) (hashed aud nonce : Text) (iat : ℕ)
+    (unsigned : UnsignedJwt) : Type 0 where
+  pub protected : unsigned.protected
+      ≡ b64 (json_text (object (header_members (binding_header alg))))
+  pub payload : unsigned.payload
+      ≡ b64 (json_text (object (claim_members (claims_for hash hashed aud nonce iat))))
 
 -- the token is that of these claims, and its signature, by the algorithm of this name, is good
-pub record IsBinding (alg : Text) (good : Meaning) (hash : HashAlg) (hashed aud nonce : Text) (iat : ℕ) (token : JwtParts) : Type 0 where
+pub record IsBinding (alg : Text) (good : Meaning) (hash : HashAlg) (hashed aud nonce : Text)
+    (iat : ℕ) (token : JwtParts) : Type 0 where
   pub protected : token.protected ≡ b64 (json_text (object (header_members (binding_header alg))))
-  pub payload : token.payload ≡ b64 (json_text (object (claim_members (claims_for hash hashed aud nonce iat))))
+  pub payload : token.payload
+      ≡ b64 (json_text (object (claim_members (claims_for hash hashed aud nonce iat))))
   pub signature : List ℕ
   pub signature_text : token.signature ≡ b64 signature
   pub signed : good token.protected token.payload signature
 
 -- the texts are read as those of these claims
-pub record AreReadBack (alg : Text) (hash : HashAlg) (hashed aud nonce : Text) (iat : ℕ) (protected payload : Text) : Type 0 where
+pub record AreReadBack (alg : Text) (hash : HashAlg) (hashed aud nonce : Text) (iat : ℕ)
+    (protected payload : Text) : Type 0 where
   pub header : IsHeader protected no_members (binding_header alg)
   pub body : IsBody payload (object (claim_members (claims_for hash hashed aud nonce iat)))
 
 -- the token is read as that of these claims
 abbrev pub IsReadBack : Text → HashAlg → Text → Text → Text → ℕ → JwtParts → Type 0
-IsReadBack alg hash hashed aud nonce iat token = AreReadBack alg hash hashed aud nonce iat token.protected token.payload
+IsReadBack alg hash hashed aud nonce iat token =
+    AreReadBack alg hash hashed aud nonce iat token.protected token.payload

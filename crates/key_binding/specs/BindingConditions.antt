@@ -28,7 +28,8 @@ abbrev pub IsHolderAlgRefused : Holders → Text → Type 0
 IsHolderAlgRefused (of_keys keys) alg = alg ≢ codes "HS256"
 IsHolderAlgRefused (of_caller caller) alg = IsAlgUntaken caller alg
 
--- the header is read, and names an algorithm that the caller takes: only then is it asked for the holder's key
+-- the header is read, and names an algorithm that the caller takes: only then
+-- is it asked for the holder's key
 abbrev pub IsAskedOf : Caller → Judged → Type 0
 IsAskedOf caller j = OfHeader j (λ header. IsAlgUntaken caller header.alg → ⊥)
 
@@ -39,7 +40,9 @@ IsHolderUnknown (of_caller caller) j = IsAskedOf caller j × IsUnknownTo caller 
 
 -- the signature is not good under the holder's key
 abbrev pub IsBadBindingSignature : Holders → Judged → Type 0
-IsBadBindingSignature (of_keys keys) j = (key : List ℕ) × (holder_key keys j.payload ≡ Some key) × (IsGoodText (hs256_key key) j.token.protected j.token.payload j.token.signature → ⊥)
+IsBadBindingSignature (of_keys keys) j =
+    (key : List ℕ) × (holder_key keys j.payload ≡ Some key)
+    × (IsGoodText (hs256_key key) j.token.protected j.token.payload j.token.signature → ⊥)
 IsBadBindingSignature (of_caller caller) j = IsBadTo caller j.token.signature
 
 -- it was made too long ago; sums have no limit
@@ -52,20 +55,34 @@ IsEarly iat skew now = (pos now +ℤ pos skew) <ℤ iat
 
 -- its own times are no whole numbers, or do not hold
 abbrev pub IsTimeRefused : Tree → ℕ → ℕ → Type 0
-IsTimeRefused body skew now = IsTimeUnreadable body ⊎ (IsExpired body skew now ⊎ IsNotYet body skew now)
+IsTimeRefused body skew now =
+    IsTimeUnreadable body ⊎ (IsExpired body skew now ⊎ IsNotYet body skew now)
 
 -- what fails each condition, where no lower one fails
 abbrev pub BindingFails : Judged → Condition → Place → Type 0
 BindingFails j Condition.HolderKeyUnknown place = Unplaced (IsHolderUnknown j.rules.holders j) place
-BindingFails j Condition.BindingHeader place = Unplaced (IsHeaderUnreadable j.token.protected no_members ⊎ IsHeaderCritical j.token.protected no_members) place
-BindingFails j Condition.BindingAlg place = Unplaced (OfHeader j (λ header. IsHolderAlgRefused j.rules.holders header.alg)) place
-BindingFails j Condition.BindingSignature place = Unplaced (IsBadBindingSignature j.rules.holders j) place
-BindingFails j Condition.BindingType place = Unplaced (OfHeader j (λ header. header.typ ≢ Some (codes "kb+jwt"))) place
-BindingFails j Condition.BindingPayload place = Unplaced ((claims : Claims) → HasClaims j.token claims → ⊥) place
-BindingFails j Condition.BindingStale place = Unplaced (OfClaims j (λ claims. IsStale claims.iat j.rules.max_age j.skew j.now)) place
-BindingFails j Condition.BindingEarly place = Unplaced (OfClaims j (λ claims. IsEarly claims.iat j.skew j.now)) place
-BindingFails j Condition.NonceDiffers place = Unplaced (OfClaims j (λ claims. claims.nonce ≢ j.rules.nonce)) place
-BindingFails j Condition.AudienceDiffers place = Unplaced (OfClaims j (λ claims. In claims.aud j.rules.aud → ⊥)) place
-BindingFails j Condition.HashDiffers place = Unplaced (OfClaims j (λ claims. claims.sd_hash ≢ digest_of j.hash j.hashed)) place
-BindingFails j Condition.BindingTime place = Unplaced ((body : Tree) × IsBody j.token.payload body × IsTimeRefused body j.skew j.now) place
+BindingFails j Condition.BindingHeader place =
+    Unplaced
+    (IsHeaderUnreadable j.token.protected no_members
+    ⊎ IsHeaderCritical j.token.protected no_members) place
+BindingFails j Condition.BindingAlg place =
+    Unplaced (OfHeader j (λ header. IsHolderAlgRefused j.rules.holders header.alg)) place
+BindingFails j Condition.BindingSignature place =
+    Unplaced (IsBadBindingSignature j.rules.holders j) place
+BindingFails j Condition.BindingType place =
+    Unplaced (OfHeader j (λ header. header.typ ≢ Some (codes "kb+jwt"))) place
+BindingFails j Condition.BindingPayload place =
+    Unplaced ((claims : Claims) → HasClaims j.token claims → ⊥) place
+BindingFails j Condition.BindingStale place =
+    Unplaced (OfClaims j (λ claims. IsStale claims.iat j.rules.max_age j.skew j.now)) place
+BindingFails j Condition.BindingEarly place =
+    Unplaced (OfClaims j (λ claims. IsEarly claims.iat j.skew j.now)) place
+BindingFails j Condition.NonceDiffers place =
+    Unplaced (OfClaims j (λ claims. claims.nonce ≢ j.rules.nonce)) place
+BindingFails j Condition.AudienceDiffers place =
+    Unplaced (OfClaims j (λ claims. In claims.aud j.rules.aud → ⊥)) place
+BindingFails j Condition.HashDiffers place =
+    Unplaced (OfClaims j (λ claims. claims.sd_hash ≢ digest_of j.hash j.hashed)) place
+BindingFails j Condition.BindingTime place =
+    Unplaced ((body : Tree) × IsBody j.token.payload body × IsTimeRefused body j.skew j.now) place
 BindingFails j _ place = ⊥

@@ -11,9 +11,11 @@ pub record Caller : Type 0 where
   pub algs : List Text
   pub answer : Option SignatureAnswer
 
--- no name, `none`, or one of a shared key, for which a public key could be taken (RFC 8725 section 3.1)
+-- no name, `none`, or one of a shared key, for which a public key could be
+-- taken (RFC 8725 section 3.1)
 abbrev pub IsNeverTaken : Text → Type 0
-IsNeverTaken alg = (alg ≡ []) ⊎ ((alg ≡ codes "none") ⊎ (starts_with nat_eq alg (codes "HS") ≡ true))
+IsNeverTaken alg =
+    (alg ≡ []) ⊎ ((alg ≡ codes "none") ⊎ (starts_with nat_eq alg (codes "HS") ≡ true))
 
 -- signatures of the algorithm are not taken
 abbrev pub IsAlgUntaken : Caller → Text → Type 0

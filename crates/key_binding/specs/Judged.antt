@@ -13,8 +13,8 @@ use Rattle.key_binding.specs.Binding.{Claims}
 use Rattle.key_binding.specs.Caller.{Caller}
 use Rattle.key_binding.specs.declared.policy.BindingPolicy.{BindingPolicy}
 
--- who may sign a key binding token: the holder whose key the processed payload names, with HS256, or whom a caller says that
--- checks signatures itself
+-- who may sign a key binding token: the holder whose key the processed payload names, with HS256,
+-- or whom a caller says that checks signatures itself
 pub data Holders : Type 0 where
   of_keys : List NamedKey → Holders
   of_caller : Caller → Holders
@@ -30,7 +30,13 @@ pub record BindingRules : Type 0 where
 
 -- the rules of a policy
 abbrev pub binding_rules : BindingPolicy → BindingRules
-binding_rules policy = record { holders = of_keys policy.keys; aud = policy.aud; nonce = policy.nonce; max_age = policy.max_age }
+binding_rules policy =
+    record {
+      holders = of_keys policy.keys;
+      aud = policy.aud;
+      nonce = policy.nonce;
+      max_age = policy.max_age;
+    }
 
 -- a key binding token, and what it is judged by
 pub record Judged : Type 0 where
@@ -47,11 +53,21 @@ pub record Judged : Type 0 where
   pub now : ℕ
 
 abbrev pub judged : JwtParts → Tree → BindingRules → ℕ → HashAlg → Text → ℕ → Judged
-judged token payload rules skew hash hashed now = record { token = token; payload = payload; rules = rules; skew = skew; hash = hash; hashed = hashed; now = now }
+judged token payload rules skew hash hashed now =
+    record {
+      token = token;
+      payload = payload;
+      rules = rules;
+      skew = skew;
+      hash = hash;
+      hashed = hashed;
+      now = now;
+    }
 
 -- the name of the holder's key: the text `kid` of the object `cnf` (RFC 7800 section 3.4)
 abbrev pub holder_kid : Tree → Option Text
-holder_kid payload = option_and_then (λ cnf. text_under cnf (codes "kid")) (get payload (codes "cnf"))
+holder_kid payload =
+    option_and_then (λ cnf. text_under cnf (codes "kid")) (get payload (codes "cnf"))
 
 -- the holder's key, where the set has it
 abbrev pub holder_key : List NamedKey → Tree → Option (List ℕ)

@@ -19,10 +19,18 @@ holders_of (declared.Holders.Keys keys) = of_keys keys.now
 holders_of (declared.Holders.Caller caller) = of_caller (caller_of caller)
 
 abbrev pub rules_seen : BindingRules → seen.BindingRules
-rules_seen r = record { holders = holders_of r.holders; aud = r.aud.now; nonce = r.nonce.now; max_age = r.max_age }
+rules_seen r =
+    record {
+      holders = holders_of r.holders;
+      aud = r.aud.now;
+      nonce = r.nonce.now;
+      max_age = r.max_age;
+    }
 
 abbrev pub judged_of : Bound → Judged
-judged_of b = judged (jwt_of b.token) (tree_of b.payload.now) (rules_seen b.rules) b.skew b.hash b.hashed.now b.now
+judged_of b =
+    judged (jwt_of b.token) (tree_of b.payload.now) (rules_seen b.rules) b.skew b.hash b.hashed.now
+    b.now
 
 -- what checks the signature is the key that the payload names, or the caller
 abbrev pub IsHolder : Holders → Tree → found.Holder → Type 0
@@ -31,7 +39,8 @@ IsHolder (of_caller caller) payload (found.Holder.Caller own) = caller_of own �
 IsHolder (of_keys keys) payload (found.Holder.Caller own) = ⊥
 IsHolder (of_caller caller) payload (found.Holder.Key key) = ⊥
 
--- with what checks the signature: the algorithm is refused, the key is not known, the signature is bad
+-- with what checks the signature: the algorithm is refused, the key is not
+-- known, the signature is bad
 abbrev pub IsAlgRefusedBy : found.Holder → Text → Type 0
 IsAlgRefusedBy (found.Holder.Key key) alg = alg ≢ codes "HS256"
 IsAlgRefusedBy (found.Holder.Caller caller) alg = IsAlgUntaken (caller_of caller) alg
@@ -41,5 +50,6 @@ IsUnknownBy (found.Holder.Key key) token = ⊥
 IsUnknownBy (found.Holder.Caller caller) token = IsUnknownTo (caller_of caller) token.signature
 
 abbrev pub IsBadBy : found.Holder → JwtParts → Type 0
-IsBadBy (found.Holder.Key key) token = IsGoodText (hs256_key key.now) token.protected token.payload token.signature → ⊥
+IsBadBy (found.Holder.Key key) token =
+    IsGoodText (hs256_key key.now) token.protected token.payload token.signature → ⊥
 IsBadBy (found.Holder.Caller caller) token = IsBadTo (caller_of caller) token.signature

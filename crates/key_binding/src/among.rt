@@ -13,7 +13,8 @@ fn is_at(texts: &TextList, i: usize, text: &str) -> bool
     }
 }
 
-/// Whether a text is one of a list, as an audience one of those that a policy names. It takes no memory.
+/// Whether a text is one of a list, as an audience one of those that a policy
+/// names. It takes no memory.
 pub fn is_among(texts: &TextList, text: &str) -> bool
     ensures { IsTrue result ↔ In text.now texts.now }
 {

@@ -19,12 +19,14 @@ pub enum SignatureAnswer {
     Good,
 }
 
-/// A caller that checks signatures itself, where their keys are not held here: those of elliptic curves, say.
+/// A caller that checks signatures itself, where their keys are not held here:
+/// those of elliptic curves, say.
 #[derive(Clone, Copy)]
 pub struct Caller<'a> {
-    /// The algorithms that it takes, by their names in RFC 7518 section 3.1 or RFC 8037 section 3.1. The empty name,
-    /// `none`, and names that begin with `HS` are not taken even where they stand among them, so that nobody can use a
-    /// public key as a shared one (RFC 8725 section 3.1).
+    /// The algorithms that it takes, by their names in RFC 7518 section 3.1 or
+    /// RFC 8037 section 3.1. The empty name, `none`, and names that begin with
+    /// `HS` are not taken even where they stand among them, so that nobody can
+    /// use a public key as a shared one (RFC 8725 section 3.1).
     pub algs: &'a TextList,
     /// What it says of the signature, where it was asked.
     pub answer: Option<SignatureAnswer>,
@@ -45,10 +47,12 @@ impl Caller<'_> {
         is_never_taken(alg) || !is_among(self.algs, alg)
     }
 
-    /// What it says of the signature of this base64url text. Where it says nothing, or the text is that of no bytes,
-    /// the signature is bad.
+    /// What it says of the signature of this base64url text. Where it says nothing, or the text is
+    /// that of no bytes, the signature is bad.
     pub fn tells(self, alloc: Global, signature: &str) -> Result<SignatureAnswer, NoMemory>
-        ensures { IfOk result (λ answer. Tells answer (IsUnknownTo (caller_of self.entry) signature.now) (IsBadTo (caller_of self.entry) signature.now)) }
+        ensures { IfOk result
+            (λ answer. Tells answer (IsUnknownTo (caller_of self.entry) signature.now)
+            (IsBadTo (caller_of self.entry) signature.now)) }
     {
         match decode(alloc, signature.as_bytes()) {
             Ok(_) => Ok(self.answer.unwrap_or(SignatureAnswer::Bad)),

@@ -6,7 +6,8 @@ ghost use Rattle.key_binding.specs.Judged.{holder_kid as holder_kid_of, holder_k
 use claim_tree::{Tree, get};
 use hmac_sign::{Hs256Key, KeySet};
 
-/// The name of the holder's key that a processed payload tells: the text `kid` of its `cnf` (RFC 7800 section 3.4).
+/// The name of the holder's key that a processed payload tells: the text `kid`
+/// of its `cnf` (RFC 7800 section 3.4).
 pub fn holder_kid(payload: &Tree) -> Option<&str>
     ensures { option_map (λ kid. kid.now) result ≡ holder_kid_of (tree_of payload.now) }
 {

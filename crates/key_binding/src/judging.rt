@@ -56,9 +56,9 @@ pub struct Bound<'a> {
 
 /// Judges a key binding token, RFC 9901 section 7.3, at a moment in seconds since 1970.
 ///
-/// `payload` is the processed payload of the token that it is sent with, `hash` the algorithm of its digests, and
-/// `hashed` its text up to and with the last tilde. The conditions 27 to 38 are judged in the order of their numbers,
-/// and the first that fails is answered.
+/// `payload` is the processed payload of the token that it is sent with, `hash` the algorithm of
+/// its digests, and `hashed` its text up to and with the last tilde. The conditions 27 to 38 are
+/// judged in the order of their numbers, and the first that fails is answered.
 pub fn check_binding(
     alloc: Global,
     token: &JwtParts,
@@ -69,8 +69,17 @@ pub fn check_binding(
     hashed: &str,
     now: u64,
 ) -> Result<(), BindingError>
-    ensures passes { OnOk result (NoneFails (BindingFails (judged token.now (tree_of payload.now) (binding_rules policy.now) skew hash hashed.now now))) }
-    ensures refused { IfErr result (λ e. OnBindingFault e (IsNumberOf (IsLowestBinding (judged token.now (tree_of payload.now) (binding_rules policy.now) skew hash hashed.now now)))) }
+    ensures passes { OnOk result
+        (NoneFails
+        (BindingFails
+        (judged token.now (tree_of payload.now) (binding_rules policy.now) skew hash
+        hashed.now now))) }
+    ensures refused { IfErr result
+        (λ e. OnBindingFault e
+        (IsNumberOf
+        (IsLowestBinding
+        (judged token.now (tree_of payload.now) (binding_rules policy.now) skew hash
+        hashed.now now)))) }
 {
     let bound = Bound {
         token: token.view(),
@@ -117,8 +126,10 @@ enum Holder<'a> {
 
 // What checks the signature, where it is a caller, or the key is known that the payload names.
 fn holder_of(bound: Bound<'_>) -> Option<Holder<'_>>
-    ensures some { IfSome result (IsHolder (judged_of bound.entry).rules.holders (judged_of bound.entry).payload) }
-    ensures none { IfNone result (IsHolderUnknown (judged_of bound.entry).rules.holders (judged_of bound.entry)) }
+    ensures some { IfSome result
+        (IsHolder (judged_of bound.entry).rules.holders (judged_of bound.entry).payload) }
+    ensures none { IfNone result
+        (IsHolderUnknown (judged_of bound.entry).rules.holders (judged_of bound.entry)) }
 {
     match bound.rules.holders {
         Holders::Keys(keys) => Some(Holder::Key(holder_key(keys, bound.payload)?)),
@@ -138,8 +149,10 @@ fn is_binding_type(typ: Option<&TextBox>) -> bool
 // The header of the token. There is no unprotected one.
 fn header_of(alloc: Global, reader: &mut JsonReader, protected: &str) -> Result<Header, HeaderError>
     ensures ok { IfOk result (IsHeader protected.now no_members) }
-    ensures unreadable { IsErrOf result HeaderError.Unreadable → IsHeaderUnreadable protected.now no_members }
-    ensures critical { IsErrOf result HeaderError.Critical → IsHeaderCritical protected.now no_members }
+    ensures unreadable { IsErrOf result HeaderError.Unreadable
+        → IsHeaderUnreadable protected.now no_members }
+    ensures critical { IsErrOf result HeaderError.Critical
+        → IsHeaderCritical protected.now no_members }
 {
     read_header_with(alloc, reader, protected, &TreeMap::new(alloc))
 }
@@ -152,7 +165,8 @@ fn check_signed(
     holder: Holder<'_>,
 ) -> Result<(), BoundError>
     requires holder { IsHolder (judged_of bound).rules.holders (judged_of bound).payload holder }
-    ensures ok { OnOk result (Passes (number_of Condition.BindingPayload) (BindingFails (judged_of bound.entry))) }
+    ensures ok { OnOk result
+        (Passes (number_of Condition.BindingPayload) (BindingFails (judged_of bound.entry))) }
     ensures refused { IfErr result (λ e. OnBoundFails e (IsLowestBinding (judged_of bound.entry))) }
 {
     match header_of(alloc, reader, bound.token.protected) {
@@ -179,7 +193,9 @@ fn answer_on(
     holder: Holder<'_>,
     token: JwtView<'_>,
 ) -> Result<SignatureAnswer, NoMemory>
-    ensures { IfOk result (λ answer. Tells answer (IsUnknownBy holder.entry (jwt_of token.entry)) (IsBadBy holder.entry (jwt_of token.entry))) }
+    ensures { IfOk result
+        (λ answer. Tells answer (IsUnknownBy holder.entry (jwt_of token.entry))
+        (IsBadBy holder.entry (jwt_of token.entry))) }
 {
     let key = match holder {
         Holder::Key(key) => key,
@@ -209,7 +225,8 @@ fn check_header(
 ) -> Result<(), BoundError>
     requires holder { IsHolder (judged_of bound).rules.holders (judged_of bound).payload holder }
     requires read { HasBindingHeader (judged_of bound).token header.now }
-    ensures ok { OnOk result (Passes (number_of Condition.BindingPayload) (BindingFails (judged_of bound.entry))) }
+    ensures ok { OnOk result
+        (Passes (number_of Condition.BindingPayload) (BindingFails (judged_of bound.entry))) }
     ensures refused { IfErr result (λ e. OnBoundFails e (IsLowestBinding (judged_of bound.entry))) }
 {
     if is_alg_refused(holder, header.alg.as_str()) {
@@ -279,7 +296,8 @@ fn check_claims(bound: Bound<'_>, claims: Claims<'_>) -> Result<(), Condition>
     requires below { Passes (number_of Condition.BindingStale) (BindingFails (judged_of bound)) }
     requires read { HasClaims (judged_of bound).token (claims_of claims) }
     requires ranged { InRange claims.iat }
-    ensures ok { OnOk result (Passes (number_of Condition.HashDiffers) (BindingFails (judged_of bound.entry))) }
+    ensures ok { OnOk result
+        (Passes (number_of Condition.HashDiffers) (BindingFails (judged_of bound.entry))) }
     ensures refused { IfErr result (IsLowestBinding (judged_of bound.entry)) }
 {
     if is_stale(&claims, bound.rules.max_age, bound.skew, bound.now) {

@@ -21,8 +21,10 @@ pub(crate) struct Claims<'a> {
 
 // The text that a claim is.
 fn text_claim<'a>(body: &'a Tree, name: &str) -> Option<&'a str>
-    ensures some { IfSome result (λ s. get_of (tree_of body.now) name.now ≡ Some (text_tree s.now)) }
-    ensures none { IfNone result ((s : Text) → get_of (tree_of body.now) name.now ≢ Some (text_tree s)) }
+    ensures some { IfSome result
+        (λ s. get_of (tree_of body.now) name.now ≡ Some (text_tree s.now)) }
+    ensures none { IfNone result
+        ((s : Text) → get_of (tree_of body.now) name.now ≢ Some (text_tree s)) }
 {
     match get(body, name) {
         Some(Tree::Text(text)) => Some(text.as_str()),
@@ -34,7 +36,8 @@ fn text_claim<'a>(body: &'a Tree, name: &str) -> Option<&'a str>
 pub(crate) fn read_claims(body: &Tree) -> Option<Claims<'_>>
     ensures some { IfSome result (λ claims. PayloadSays (tree_of body.now) (claims_of claims)) }
     ensures ranged { IfSome result (λ claims. InRange claims.iat) }
-    ensures none { IfNone result ((claims : SaidClaims) → PayloadSays (tree_of body.now) claims → ⊥) }
+    ensures none { IfNone result
+        ((claims : SaidClaims) → PayloadSays (tree_of body.now) claims → ⊥) }
 {
     Some(Claims {
         aud: text_claim(body, "aud")?,

@@ -17,8 +17,11 @@ pub fn short_text_in(
     members: &TreeMap,
     name: &str,
 ) -> Result<Option<TextBox>, NoMemory>
-    ensures text { IfOk result (λ text. IfSome text (Says IsShortText (member_named members.now name.now))) }
-    ensures none { IfOk result (λ text. IfNone text ((s : Text) → Says IsShortText (member_named members.now name.now) s → ⊥)) }
+    ensures text { IfOk result
+        (λ text. IfSome text (Says IsShortText (member_named members.now name.now))) }
+    ensures none { IfOk result
+        (λ text.
+        IfNone text ((s : Text) → Says IsShortText (member_named members.now name.now) s → ⊥)) }
 {
     let Some(Tree::Text(text)) = members.get(name) else {
         return Ok(None);

@@ -46,7 +46,8 @@ fn put_text(alloc: Global, members: &mut TreeMap, name: &str, text: &str) -> Res
 
 // The protected header, written.
 fn header_part(alloc: Global, alg: &str) -> Result<TextBox, NoMemory>
-    ensures text { IfOk result (λ part. part ≡ b64 (json_text (object (header_members (binding_header alg.now))))) }
+    ensures text { IfOk result
+        (λ part. part ≡ b64 (json_text (object (header_members (binding_header alg.now))))) }
     ensures back { IfOk result (λ part. IsHeader part no_members (binding_header alg.now)) }
 {
     let header = header(alloc, alg)?;
@@ -62,8 +63,14 @@ fn payload_part(
     nonce: &str,
     iat: u64,
 ) -> Result<TextBox, NoMemory>
-    ensures text { IfOk result (λ part. part ≡ b64 (json_text (object (claim_members (claims_for hash hashed.now aud.now nonce.now iat))))) }
-    ensures back { IfOk result (λ part. IsBody part (object (claim_members (claims_for hash hashed.now aud.now nonce.now iat)))) }
+    ensures text { IfOk result
+        (λ part. part
+        ≡ b64
+        (json_text
+        (object (claim_members (claims_for hash hashed.now aud.now nonce.now iat))))) }
+    ensures back { IfOk result
+        (λ part. IsBody part
+        (object (claim_members (claims_for hash hashed.now aud.now nonce.now iat)))) }
 {
     let mut members = TreeMap::new(alloc);
     put_text(alloc, &mut members, "aud", aud)?;
@@ -74,11 +81,11 @@ fn payload_part(
     write_body(alloc, &Tree::Object(members))
 }
 
-/// What is to be signed of a key binding token, RFC 9901 section 4.3, for an audience, with its nonce, at a moment in
-/// seconds since 1970.
+/// What is to be signed of a key binding token, RFC 9901 section 4.3, for an audience, with its
+/// nonce, at a moment in seconds since 1970.
 ///
-/// `alg` is the name of the algorithm that signs, `hashed` the text of the token that it is sent with, up to and with the
-/// last tilde, and `hash` the algorithm of that token's digests.
+/// `alg` is the name of the algorithm that signs, `hashed` the text of the token that it is sent
+/// with, up to and with the last tilde, and `hash` the algorithm of that token's digests.
 pub fn unsigned_binding(
     alloc: Global,
     alg: &str,
@@ -89,7 +96,9 @@ pub fn unsigned_binding(
     iat: u64,
 ) -> Result<UnsignedJwt, NoMemory>
     ensures texts { IfOk result (IsUnsignedBinding alg.now hash hashed.now aud.now nonce.now iat) }
-    ensures back { IfOk result (λ unsigned. AreReadBack alg.now hash hashed.now aud.now nonce.now iat unsigned.protected unsigned.payload) }
+    ensures back { IfOk result
+        (λ unsigned. AreReadBack alg.now hash hashed.now aud.now nonce.now iat unsigned.protected
+        unsigned.payload) }
     ensures words { IfOk result (λ unsigned. IsWord unsigned.protected × IsWord unsigned.payload) }
 {
     let protected = header_part(alloc, alg)?;
@@ -97,7 +106,8 @@ pub fn unsigned_binding(
     Ok(UnsignedJwt { protected, payload })
 }
 
-/// Writes a key binding token, as [`unsigned_binding`] says, with a signature of the signer, which is asked once.
+/// Writes a key binding token, as [`unsigned_binding`] says, with a signature
+/// of the signer, which is asked once.
 pub fn bind<S: Signer>(
     alloc: Global,
     signer: &mut S,
@@ -107,10 +117,14 @@ pub fn bind<S: Signer>(
     nonce: &str,
     iat: u64,
 ) -> Result<JwtParts, BindError>
-    ensures binding { IfOk result (IsBinding (S.alg_name_of signer.old) (S.good signer.old) hash hashed.now aud.now nonce.now iat) }
-    ensures back { IfOk result (IsReadBack (S.alg_name_of signer.old) hash hashed.now aud.now nonce.now iat) }
+    ensures binding { IfOk result
+        (IsBinding (S.alg_name_of signer.old) (S.good signer.old) hash hashed.now aud.now nonce.now
+        iat) }
+    ensures back { IfOk result
+        (IsReadBack (S.alg_name_of signer.old) hash hashed.now aud.now nonce.now iat) }
     ensures words { IfOk result HasWords }
-    ensures failed { IsErrOf result BindError.SignFailed → Rose (S.faults signer.old) (S.faults signer.new) }
+    ensures failed { IsErrOf result BindError.SignFailed
+        → Rose (S.faults signer.old) (S.faults signer.new) }
 
     // what stays
     ensures same_good { Agree (S.good signer.new) (S.good signer.old) }

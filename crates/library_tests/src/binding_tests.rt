@@ -67,7 +67,8 @@ fn what_is_bound_is_written(rt: HostRuntime) -> Result<(), Fail> {
     Ok(())
 }
 
-// The number of the condition that fails of a token with this processed payload, and 0 where none does.
+// The number of the condition that fails of a token with this processed
+// payload, and 0 where none does.
 fn judged(
     alloc: Global,
     token: &JwtParts,

@@ -17,7 +17,8 @@ const KEYS: &str = r#"{"keys":[{"kty":"oct","k":"AQEBAQEBAQEBAQEBAQEBAQEBAQEBAQE
 const BINDING: &str =
     r#","binding":{"key":"AgICAgICAgICAgICAgICAgICAgICAgICAgICAgICAgI","kid":"h1","aud":"v","nonce":"n"}"#;
 
-// What is presented of a token for an order that asks for no key binding token, where all places may be shown.
+// What is presented of a token for an order that asks for no key binding token,
+// where all places may be shown.
 pub(crate) fn presented(alloc: Global, token: &str, order: &str) -> Result<TextBox, Fail> {
     let said = read_present(alloc, order.as_bytes()).map_err(|_| "no order")?;
     let PresentFile { ask, .. } = said;
@@ -55,8 +56,8 @@ fn refused(
     present(alloc, text, ask, &consent, signer, 0, steps).err()
 }
 
-// The answer of a holder who shows places of at most so many steps, and whose signer fails at one call: why it presents
-// nothing, the faults of its signer, and the look-ups of the token.
+// The answer of a holder who shows places of at most so many steps, and whose signer fails at one
+// call: why it presents nothing, the faults of its signer, and the look-ups of the token.
 fn told(
     alloc: Global,
     most: usize,

@@ -97,8 +97,8 @@ fn a_place_that_is_not_there_is_named(rt: HostRuntime) -> Result<(), Fail> {
     Ok(())
 }
 
-// What a signer that fails at one call makes of an order: whether it is issued, whether the signer failed, and how
-// often it did.
+// What a signer that fails at one call makes of an order: whether it is issued,
+// whether the signer failed, and how often it did.
 fn asked(alloc: Global, order: &Order, call: u64) -> Result<(bool, bool, u64), Fail>
     requires shallow { depth (tree_of order.now.payload) ≤ json_depth_max }
 {

@@ -1,4 +1,5 @@
-// Verdicts where the caller checks the signatures, over the presentation of RFC 9901 section 5.2 as it stands there.
+// Verdicts where the caller checks the signatures, over the presentation of RFC
+// 9901 section 5.2 as it stands there.
 
 use claim_tree::write;
 use digest_index::Steps;
@@ -26,7 +27,8 @@ fn told(alloc: Global, before: &str, text: &str) -> Result<TextBox, Fail> {
     Ok(TextBox::from_string(format!(in alloc; "{before} {text}")?))
 }
 
-// What a question asks: the algorithm, how many bytes the signature has, and the ends of what is signed.
+// What a question asks: the algorithm, how many bytes the signature has, and
+// the ends of what is signed.
 fn asks(alloc: Global, whom: &str, question: &Question) -> Result<TextBox, Fail> {
     let (alg, text) = (question.header.alg.as_str(), question.text.as_str());
     let (count, length) = (question.signature.bytes().len(), text.len());
@@ -65,7 +67,9 @@ fn judged(alloc: Global, file: &str, holder_alg: &str, answers: Answers) -> Resu
 
 // The claims as the RFC prints them, in the order of their names.
 const CLAIMS: &str =
-    r#"{"address":{"country":"US","locality":"Anytown","region":"Anystate","street_address":"123 Main St"},"cnf":{"jwk":{"crv":"P-256","kty":"EC","x":"TCAER19Zvu3OHF4j4W4vfSVoHIP1ILilDls7vCeGemc","y":"ZxjiWWbZMQGHVWKVQ4hbSIirsVfuecCE6t4jT9F2HZQ"}},"exp":1883000000,"family_name":"Doe","given_name":"John","iat":1683000000,"iss":"https://issuer.example.com","nationalities":["US"],"sub":"user_42"}"#;
+    r#"{"address":{"country":"US","locality":"Anytown","region":"Anystate","street_address":"123
+        Main
+        St"},"cnf":{"jwk":{"crv":"P-256","kty":"EC","x":"TCAER19Zvu3OHF4j4W4vfSVoHIP1ILilDls7vCeGemc","y":"ZxjiWWbZMQGHVWKVQ4hbSIirsVfuecCE6t4jT9F2HZQ"}},"exp":1883000000,"family_name":"Doe","given_name":"John","iat":1683000000,"iss":"https://issuer.example.com","nationalities":["US"],"sub":"user_42"}"#;
 
 fn told_claims(alloc: Global, before: &str) -> Result<TextBox, Fail> {
     told(alloc, before, CLAIMS)

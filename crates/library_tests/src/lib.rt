@@ -1,5 +1,6 @@
-//! Tests of the libraries that issue, present and judge, of what no run of the program shows. They stand apart from the
-//! code because a crate with tests is proved twice, and apart from `base_tests` so that those need not wait for these.
+//! Tests of the libraries that issue, present and judge, of what no run of the program shows. They
+//! stand apart from the code because a crate with tests is proved twice, and apart from
+//! `base_tests` so that those need not wait for these.
 #![tactic(auto)]
 
 #[cfg(test)]

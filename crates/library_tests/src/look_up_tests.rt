@@ -1,5 +1,5 @@
-// The look-ups of a token with many members, as `gen` makes it: each digest that it shows is looked up once, and each
-// disclosure.
+// The look-ups of a token with many members, as `gen` makes it: each digest
+// that it shows is looked up once, and each disclosure.
 
 use crate::holder_tests::presented;
 use compact_form::print;

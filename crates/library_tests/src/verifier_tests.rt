@@ -1,5 +1,5 @@
-// The look-ups of digests, which no run of the program shows: those of `verify`, and those of `check_token` and of a
-// borrowed token, which no run calls.
+// The look-ups of digests, which no run of the program shows: those of `verify`, and those of
+// `check_token` and of a borrowed token, which no run calls.
 
 use claim_tree::{Tree, write};
 use compact_form::{View, print};

@@ -26,8 +26,8 @@ fn held_of(alloc: Global, texts: &[&str]) -> Result<CredentialList, Fail> {
     Ok(held)
 }
 
-// The credential that is picked, and how many disclosures are sent of it, where places of at most so many steps are
-// shown.
+// The credential that is picked, and how many disclosures are sent of it, where
+// places of at most so many steps are shown.
 fn picked(
     alloc: Global,
     most: usize,

@@ -7,7 +7,8 @@ use Rattle.marked_tree.specs.Paths.{Path, Spot, spots}
 
 -- for each node whose mark is in s, so are all marks above it
 abbrev pub IsClosed : Marked → (ℕ → Bool) → Type 0
-IsClosed m s = (node : Spot) → In node (spots m) → s node.mark ≡ true → (j : ℕ) → In j node.above → s j ≡ true
+IsClosed m s =
+    (node : Spot) → In node (spots m) → s node.mark ≡ true → (j : ℕ) → In j node.above → s j ≡ true
 
 -- every node on the way to a wanted path stays: its own mark and all above it are in s
 abbrev pub KeepsTheWay : Marked → List Path → (ℕ → Bool) → Type 0

@@ -17,20 +17,27 @@ abbrev mutual
 
   marked_elements_to : MarkedElements → Gv
   marked_elements_to no_marked_elements = gnil
-  marked_elements_to (marked_element i t es) = gcons (mark_code.code i) (gcons (marked_to t) (marked_elements_to es))
+  marked_elements_to (marked_element i t es) =
+      gcons (mark_code.code i) (gcons (marked_to t) (marked_elements_to es))
 
   marked_members_to : MarkedMembers → Gv
   marked_members_to no_marked_members = gnil
-  marked_members_to (marked_member k i t ms) = gcons (text_code.code k) (gcons (mark_code.code i) (gcons (marked_to t) (marked_members_to ms)))
+  marked_members_to (marked_member k i t ms) =
+      gcons (text_code.code k)
+      (gcons (mark_code.code i) (gcons (marked_to t) (marked_members_to ms)))
 
 mutual
   pub marked_inj : (x y : Marked) → marked_to x ≡ marked_to y → x ≡ y
-  marked_inj (marked_leaf l) (marked_leaf m) e = ap marked_leaf (leaf_inj l m (gcons_same _ _ _ _ e).1)
-  marked_inj (marked_array es) (marked_array fs) e = ap marked_array (marked_elements_inj es fs (gcons_same _ _ _ _ e).1)
-  marked_inj (marked_object ms) (marked_object ns) e = ap marked_object (marked_members_inj ms ns (gcons_same _ _ _ _ e).1)
+  marked_inj (marked_leaf l) (marked_leaf m) e =
+      ap marked_leaf (leaf_inj l m (gcons_same _ _ _ _ e).1)
+  marked_inj (marked_array es) (marked_array fs) e =
+      ap marked_array (marked_elements_inj es fs (gcons_same _ _ _ _ e).1)
+  marked_inj (marked_object ms) (marked_object ns) e =
+      ap marked_object (marked_members_inj ms ns (gcons_same _ _ _ _ e).1)
   marked_inj x y e = cc
 
-  pub marked_elements_inj : (x y : MarkedElements) → marked_elements_to x ≡ marked_elements_to y → x ≡ y
+  pub marked_elements_inj : (x y : MarkedElements) → marked_elements_to x ≡ marked_elements_to y
+      → x ≡ y
   marked_elements_inj no_marked_elements no_marked_elements e = refl
   marked_elements_inj (marked_element i t es) (marked_element j u fs) e =
       let v = gcons_same _ _ _ _ e in

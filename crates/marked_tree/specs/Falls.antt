@@ -19,10 +19,14 @@ deep-le (Marked.Text s) = omega arith
 deep-le (Marked.List es) = omega arith
 deep-le (Marked.Object ms) = omega arith
 
-pub most-elements : (es : List (Option ℕ × Marked)) → most (λ x. (weighed-MarkedList-elements-at-2).weight the_data (λ t. deep-Marked t) x) es ≤ 2 * elements_nodes (strip_elements (marked_elements_of es))
+pub most-elements : (es : List (Option ℕ × Marked))
+    → most (λ x. (weighed-MarkedList-elements-at-2).weight the_data (λ t. deep-Marked t) x) es
+    ≤ 2 * elements_nodes (strip_elements (marked_elements_of es))
 most-elements [] = omega arith
 most-elements (e ∷ es) = omega (arith, deep-le e.1, most-elements es)
 
-pub most-members : (ms : List (Text × Option ℕ × Marked)) → most (λ x. (weighed-MarkedMap-members-at-3).weight the_data (λ t. deep-Marked t) x) ms ≤ 2 * members_nodes (strip_members (marked_members_of ms))
+pub most-members : (ms : List (Text × Option ℕ × Marked))
+    → most (λ x. (weighed-MarkedMap-members-at-3).weight the_data (λ t. deep-Marked t) x) ms
+    ≤ 2 * members_nodes (strip_members (marked_members_of ms))
 most-members [] = omega arith
 most-members (m ∷ ms) = omega (arith, deep-le m.2, most-members ms)

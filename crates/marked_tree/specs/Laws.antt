@@ -21,7 +21,8 @@ MarksOnce = (t : Tree) (hide : List Path) → HasEachMarkOnce (mark t hide) (hid
 -- mark k stands at the hidden place that has k others before it in closing order
 pub record IsClosing (t : Tree) (hide : List Path) : Type 0 where
   pub count : length (closing (is_among hide) t) ≡ hidden_count t hide
-  pub places : (k : ℕ) (q : Path) → StandsAt (closing (is_among hide) t) k q → mark_path (mark t hide) k ≡ Some q
+  pub places : (k : ℕ) (q : Path) → StandsAt (closing (is_among hide) t) k q
+      → mark_path (mark t hide) k ≡ Some q
 
 abbrev pub MarksClose : Type 0
 MarksClose = (t : Tree) (hide : List Path) → IsClosing t hide
@@ -32,4 +33,6 @@ Choice = (m : Marked) (want : List Path) → IsUnmixed m → IsLeastChoice m wan
 
 -- what a choice of marks leaves is what is shown
 abbrev pub ChosenIsLeft : Type 0
-ChosenIsLeft = (t : Tree) (hide want : List Path) → strip (prune (mark t hide) (chosen (mark t hide) want)) ≡ shown hide want t
+ChosenIsLeft =
+    (t : Tree) (hide want : List Path)
+    → strip (prune (mark t hide) (chosen (mark t hide) want)) ≡ shown hide want t

@@ -1,4 +1,5 @@
--- A tree without some of its places, and which places are left out where some are hidden and some wanted.
+-- A tree without some of its places, and which places are left out where some
+-- are hidden and some wanted.
 use Rattle.std.specs.Prelude.{ℕ, suc, List, [], ◌∷◌, Bool, ◌&&◌, not, if◌then◌else◌, decimal}
 use Rattle.std.specs.List.{list_any}
 use Rattle.claim_tree.specs.Tree.{Tree, leaf, array, object, Elements, no_elements, element, Members, no_members, member}
@@ -15,11 +16,15 @@ abbrev mutual
   -- the first element has the position i
   pub elements_without : (Path → Bool) → ℕ → Elements → Elements
   elements_without h i no_elements = no_elements
-  elements_without h i (element t es) = if h (decimal i ∷ []) then elements_without h (suc i) es else element (without (below (decimal i) h) t) (elements_without h (suc i) es)
+  elements_without h i (element t es) =
+      if h (decimal i ∷ []) then elements_without h (suc i) es
+      else element (without (below (decimal i) h) t) (elements_without h (suc i) es)
 
   pub members_without : (Path → Bool) → Members → Members
   members_without h no_members = no_members
-  members_without h (member k t ms) = if h (k ∷ []) then members_without h ms else member k (without (below k h) t) (members_without h ms)
+  members_without h (member k t ms) =
+      if h (k ∷ []) then members_without h ms
+      else member k (without (below k h) t) (members_without h ms)
 
 -- the path leads to a wanted one
 abbrev pub leads_to : List Path → Path → Bool

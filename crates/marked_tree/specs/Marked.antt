@@ -1,4 +1,5 @@
--- Trees whose members and elements carry the number of the disclosure from which they came, or none.
+-- Trees whose members and elements carry the number of the disclosure from
+-- which they came, or none.
 use Rattle.std.specs.Prelude.{ℕ, Bool, if◌then◌else◌, Option, Some, None, option_map}
 use Rattle.std.specs.Ordering.{match_ordering, nat_cmp}
 use Rattle.std.specs.Cmp.Lexicographic.{slice_cmp}
@@ -59,7 +60,8 @@ abbrev pub keep_member : Text → Option (Option ℕ) → Marked → MarkedMembe
 keep_member name None t ms = ms
 keep_member name (Some i) t ms = marked_member name i t ms
 
--- each mark i becomes f i, and where that is none the member or element is left out, with all below it
+-- each mark i becomes f i, and where that is none the member or element is left
+-- out, with all below it
 abbrev mutual
   pub remark : (ℕ → Option ℕ) → Marked → Marked
   remark f (marked_leaf l) = marked_leaf l
@@ -68,11 +70,13 @@ abbrev mutual
 
   pub remark_elements : (ℕ → Option ℕ) → MarkedElements → MarkedElements
   remark_elements f no_marked_elements = no_marked_elements
-  remark_elements f (marked_element i t es) = keep_element (new_mark f i) (remark f t) (remark_elements f es)
+  remark_elements f (marked_element i t es) =
+      keep_element (new_mark f i) (remark f t) (remark_elements f es)
 
   pub remark_members : (ℕ → Option ℕ) → MarkedMembers → MarkedMembers
   remark_members f no_marked_members = no_marked_members
-  remark_members f (marked_member name i t ms) = keep_member name (new_mark f i) (remark f t) (remark_members f ms)
+  remark_members f (marked_member name i t ms) =
+      keep_member name (new_mark f i) (remark f t) (remark_members f ms)
 
 abbrev pub kept : (ℕ → Bool) → ℕ → Option ℕ
 kept s i = if s i then Some i else None

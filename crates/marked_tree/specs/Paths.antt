@@ -38,11 +38,13 @@ abbrev mutual
   -- the first element has the position n
   pub elements_spots : ℕ → MarkedElements → List Spot
   elements_spots n no_marked_elements = []
-  elements_spots n (marked_element i t es) = (own_spot (decimal n) i ++ map (inside (decimal n) i) (spots t)) ++ elements_spots (suc n) es
+  elements_spots n (marked_element i t es) =
+      (own_spot (decimal n) i ++ map (inside (decimal n) i) (spots t)) ++ elements_spots (suc n) es
 
   pub members_spots : MarkedMembers → List Spot
   members_spots no_marked_members = []
-  members_spots (marked_member k i t ms) = (own_spot k i ++ map (inside k i) (spots t)) ++ members_spots ms
+  members_spots (marked_member k i t ms) =
+      (own_spot k i ++ map (inside k i) (spots t)) ++ members_spots ms
 
 abbrev pub first_with : ℕ → List Spot → Option Path
 first_with i [] = None
@@ -70,11 +72,14 @@ abbrev mutual
 
   pub hidden_elements : (Path → Bool) → ℕ → Elements → ℕ
   hidden_elements h i no_elements = 0
-  hidden_elements h i (element t es) = (hidden_in (below (decimal i) h) t + one_if (h (decimal i ∷ []))) + hidden_elements h (suc i) es
+  hidden_elements h i (element t es) =
+      (hidden_in (below (decimal i) h) t + one_if (h (decimal i ∷ [])))
+      + hidden_elements h (suc i) es
 
   pub hidden_members : (Path → Bool) → Members → ℕ
   hidden_members h no_members = 0
-  hidden_members h (member k t ms) = (hidden_in (below k h) t + one_if (h (k ∷ []))) + hidden_members h ms
+  hidden_members h (member k t ms) =
+      (hidden_in (below k h) t + one_if (h (k ∷ []))) + hidden_members h ms
 
 abbrev pub mark_if : Bool → ℕ → Option ℕ
 mark_if b i = if b then Some i else None
@@ -89,13 +94,16 @@ abbrev mutual
   pub mark_elements : (Path → Bool) → ℕ → ℕ → Elements → MarkedElements
   mark_elements h n i no_elements = no_marked_elements
   mark_elements h n i (element t es) =
-      marked_element (mark_if (h (decimal i ∷ [])) (n + hidden_in (below (decimal i) h) t)) (mark_from (below (decimal i) h) n t)
-      (mark_elements h (n + (hidden_in (below (decimal i) h) t + one_if (h (decimal i ∷ [])))) (suc i) es)
+      marked_element (mark_if (h (decimal i ∷ [])) (n + hidden_in (below (decimal i) h) t))
+      (mark_from (below (decimal i) h) n t)
+      (mark_elements h (n + (hidden_in (below (decimal i) h) t + one_if (h (decimal i ∷ []))))
+      (suc i) es)
 
   pub mark_members : (Path → Bool) → ℕ → Members → MarkedMembers
   mark_members h n no_members = no_marked_members
   mark_members h n (member k t ms) =
-      marked_member k (mark_if (h (k ∷ [])) (n + hidden_in (below k h) t)) (mark_from (below k h) n t)
+      marked_member k (mark_if (h (k ∷ [])) (n + hidden_in (below k h) t))
+      (mark_from (below k h) n t)
       (mark_members h (n + (hidden_in (below k h) t + one_if (h (k ∷ [])))) ms)
 
 abbrev pub same_path : Path → Path → Bool

@@ -1,4 +1,5 @@
--- Not needed to believe the program's promises: sorted paths, seen from a depth. What counts steps is for private functions.
+-- Not needed to believe the program's promises: sorted paths, seen from a
+-- depth. What counts steps is for private functions.
 use Rattle.std.specs.Prelude.{◌≡◌, ◌≢◌, ℕ, ◌+◌, ◌≤◌, List, [], ◌∷◌, length, map, take, drop, bytes_eq, if◌then◌else◌}
 use Rattle.std.specs.Ordering.{nat_cmp, ordering_then}
 use Rattle.std.specs.Cmp.Lexicographic.{slice_cmp}
@@ -56,7 +57,8 @@ pub record IsStart (depth : ℕ) (step : Text) (paths : List Path) (start : ℕ)
   pub behind : Every (Follows depth step) (drop start paths)
 
 -- the paths with this step at the depth: so many, from the position `start` on
-pub record IsRunOfPaths (depth : ℕ) (step : Text) (paths : List Path) (start count : ℕ) : Type 0 where
+pub record IsRunOfPaths (depth : ℕ) (step : Text) (paths : List Path) (start count : ℕ)
+    : Type 0 where
   pub within : start + count ≤ length paths
   pub before : Every (Compares Less depth step) (take start paths)
   pub run : Every (Compares Equal depth step) (take count (drop start paths))

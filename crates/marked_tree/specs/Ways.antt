@@ -49,7 +49,8 @@ abbrev mutual
 
   pub members_weight : (ℕ → ℕ) → MarkedMembers → ℕ
   members_weight w no_marked_members = 0
-  members_weight w (marked_member name i t ms) = (mark_weight w i + weight w t) + members_weight w ms
+  members_weight w (marked_member name i t ms) =
+      (mark_weight w i + weight w t) + members_weight w ms
 
 -- 1 at i, 0 elsewhere: weight (only i) counts the nodes with mark i
 abbrev pub only : ℕ → ℕ → ℕ
@@ -67,8 +68,11 @@ abbrev mutual
 
   pub closing_elements : (Path → Bool) → ℕ → Elements → List Path
   closing_elements h i no_elements = []
-  closing_elements h i (element t es) = (map (λ p. decimal i ∷ p) (closing (below (decimal i) h) t) ++ own_path (h (decimal i ∷ [])) (decimal i)) ++ closing_elements h (suc i) es
+  closing_elements h i (element t es) =
+      (map (λ p. decimal i ∷ p) (closing (below (decimal i) h) t)
+      ++ own_path (h (decimal i ∷ [])) (decimal i)) ++ closing_elements h (suc i) es
 
   pub closing_members : (Path → Bool) → Members → List Path
   closing_members h no_members = []
-  closing_members h (member k t ms) = (map (λ p. k ∷ p) (closing (below k h) t) ++ own_path (h (k ∷ [])) k) ++ closing_members h ms
+  closing_members h (member k t ms) =
+      (map (λ p. k ∷ p) (closing (below k h) t) ++ own_path (h (k ∷ [])) k) ++ closing_members h ms

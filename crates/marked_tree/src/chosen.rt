@@ -8,7 +8,8 @@ use sd_outside::NoMemory;
 use std::alloc::Global;
 use std::marker::Model;
 
-/// A set of marks. Contracts see its numbers in rising order. One of many marks is made of all of them at once.
+/// A set of marks. Contracts see its numbers in rising order. One of many marks
+/// is made of all of them at once.
 #[derive(Debug, Drop)]
 pub struct ChosenSet {
     marks: Vec<u32>,
@@ -65,7 +66,8 @@ impl ChosenSet {
     /// Adds a mark, unless it is there. Each mark that is greater moves one place.
     pub fn add(&mut self, mark: u32) -> Result<(), NoMemory>
         ensures ok { OnOk result (self.new ≡ insert_key nat_cmp self.old mark) }
-        ensures has { OnOk result ((i : ℕ) → has_number self.new i ≡ (eqb i mark || has_number self.old i)) }
+        ensures has { OnOk result
+            ((i : ℕ) → has_number self.new i ≡ (eqb i mark || has_number self.old i)) }
         ensures err { OnErr result (self.new ≡ self.old) }
     {
         if let Err(position) = search_from_end(&self.marks, mark) {

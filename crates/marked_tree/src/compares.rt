@@ -5,8 +5,8 @@ ghost use Rattle.marked_tree.specs.Rests.{step_cmp, path_order};
 use claim_tree::{Path, is_prefix};
 use std::cmp::Ordering;
 
-/// How two paths compare: step by step, a front first. Of two steps the shorter comes first, so that positions rise
-/// as their numbers do; those of one length go by their bytes.
+/// How two paths compare: step by step, a front first. Of two steps the shorter comes first, so
+/// that positions rise as their numbers do; those of one length go by their bytes.
 pub fn compare_paths(one: &Path, other: &Path) -> Ordering
     ensures { result ≡ path_order one.now other.now }
 {

@@ -16,14 +16,14 @@ pub fn marks_close()
     ensures { MarksClose }
 {}
 
-/// Where no mark stands on two nodes, the marks of the nodes that lead to a wanted path are closed, and the least that
-/// keep the way to each wanted path.
+/// Where no mark stands on two nodes, the marks of the nodes that lead to a wanted path are closed,
+/// and the least that keep the way to each wanted path.
 pub fn choice()
     ensures { Choice }
 {}
 
-/// What is left of a marked tree by the marks that lead to a wanted path is the tree without the hidden places that
-/// lead to none.
+/// What is left of a marked tree by the marks that lead to a wanted path is the
+/// tree without the hidden places that lead to none.
 pub fn chosen_is_left()
     ensures { ChosenIsLeft }
 {}

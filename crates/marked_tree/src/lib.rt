@@ -1,7 +1,7 @@
 //! Trees whose members and elements carry the number of the disclosure from which they came.
 //!
-//! [`mark`] numbers the places of a plain tree, [`strip`] drops the marks, [`prune`] leaves out what is not chosen,
-//! and [`place_of`] answers where a mark stands.
+//! [`mark`] numbers the places of a plain tree, [`strip`] drops the marks, [`prune`] leaves out
+//! what is not chosen, and [`place_of`] answers where a mark stands.
 #![tactic(auto)]
 
 mod chosen;

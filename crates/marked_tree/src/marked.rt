@@ -50,7 +50,8 @@ impl Model for MarkedList {
 
     ghost view = { λ l. marked_elements_of l.elements.items };
 
-    ghost invariant = { λ l. ElementsOrdered (strip_elements (marked_elements_of l.elements.items)) };
+    ghost invariant = { λ l.
+        ElementsOrdered (strip_elements (marked_elements_of l.elements.items)) };
 
     ghost size = { λ es. elements_size (strip_elements es) };
 
@@ -60,8 +61,8 @@ impl Model for MarkedList {
     ghost size_decreases = { λ l h. omega (arith, most-elements l.elements.items) };
 }
 
-/// The members of an object, each with its mark, ascending by the bytes of their names, each name once. Contracts
-/// see them in this order.
+/// The members of an object, each with its mark, ascending by the bytes of their names, each name
+/// once. Contracts see them in this order.
 #[cycle(marked)]
 #[derive(Debug, Drop)]
 pub struct MarkedMap {
@@ -95,7 +96,8 @@ impl Model for MarkedMap {
 }
 
 impl Marked {
-    // What every marked tree is, by the invariants of what it holds. It does nothing, and is called for its clause.
+    // What every marked tree is, by the invariants of what it holds. It does
+    // nothing, and is called for its clause.
     pub(crate) fn invariant(&self)
         ensures { IsOrdered (strip (marked_of self.now)) }
     {
@@ -219,7 +221,8 @@ impl MarkedMap {
     /// The member at a position, counted from 0 in ascending order.
     #[tactic(auto, using(crate::proofs::MarkedViews::looked_up))]
     pub fn entry_at(&self, i: usize) -> Option<(&TextBox, Option<u32>, &Marked)>
-        ensures { option_map (λ m. (m.0.now, m.1, marked_of m.2.now)) result ≡ marked_member_at self.now i }
+        ensures { option_map (λ m. (m.0.now, m.1, marked_of m.2.now)) result
+            ≡ marked_member_at self.now i }
     {
         let (name, mark, tree) = self.members().get(i)?;
         Some((name, *mark, tree))
@@ -227,7 +230,8 @@ impl MarkedMap {
 
     /// The mark and the tree under a name. It takes no memory.
     pub fn get(&self, name: &str) -> Option<(Option<u32>, &Marked)>
-        ensures { option_map (λ e. (e.0, marked_of e.1.now)) result ≡ marked_member_named self.now name.now }
+        ensures { option_map (λ e. (e.0, marked_of e.1.now)) result
+            ≡ marked_member_named self.now name.now }
     {
         let members = self.members();
         match search(members, name) {
@@ -239,8 +243,8 @@ impl MarkedMap {
         }
     }
 
-    /// Puts a mark and a tree under a name, in place of those that are there. A name behind all others is not
-    /// searched for, and moves no member.
+    /// Puts a mark and a tree under a name, in place of those that are there. A name behind all
+    /// others is not searched for, and moves no member.
     pub fn insert(&mut self, name: TextBox, mark: Option<u32>, tree: Marked) -> Result<(), NoMemory>
         ensures ok { OnOk result (self.new ≡ marked_inserted self.old name mark (marked_of tree)) }
         ensures err { OnErr result (self.new ≡ self.old) }
@@ -249,8 +253,8 @@ impl MarkedMap {
         set(&mut self.members, name, mark, tree)
     }
 
-    /// Puts a mark and a tree under a name, unless it is there. A name behind all others is not searched for, and
-    /// moves no member.
+    /// Puts a mark and a tree under a name, unless it is there. A name behind all others is not
+    /// searched for, and moves no member.
     pub fn put(&mut self, name: TextBox, mark: Option<u32>, tree: Marked) -> Result<(), NoMemory>
         ensures ok { OnOk result (self.new ≡ put name mark (marked_of tree) self.old) }
         ensures err { OnErr result (self.new ≡ self.old) }
@@ -259,8 +263,8 @@ impl MarkedMap {
         add(&mut self.members, name, mark, tree)
     }
 
-    /// The members, and those that are added in any order, each put there in turn. Of n members it sorts them
-    /// once, in n log n steps.
+    /// The members, and those that are added in any order, each put there in turn. Of n members it
+    /// sorts them once, in n log n steps.
     pub fn with_all(
         self,
         alloc: Global,
@@ -313,7 +317,8 @@ fn of_members(
     alloc: Global,
     members: Vec<(TextBox, Option<u32>, Marked)>,
 ) -> Result<MarkedMap, NoMemory>
-    ensures { IfOk result (λ map. map ≡ put_all (marked_members_of members.items) no_marked_members) }
+    ensures { IfOk result
+        (λ map. map ≡ put_all (marked_members_of members.items) no_marked_members) }
 {
     let mut map = MarkedMap {
         members: Vec::with_capacity(alloc, members.len())?,
@@ -343,7 +348,9 @@ fn is_before(
 
 // Members of one name keep their order.
 fn sort_by_name(members: &mut Vec<(TextBox, Option<u32>, Marked)>) -> Result<(), NoMemory>
-    ensures { OnOk result (put_all (marked_members_of members.new.items) no_marked_members ≡ put_all (marked_members_of members.old.items) no_marked_members) }
+    ensures { OnOk result
+        (put_all (marked_members_of members.new.items) no_marked_members
+        ≡ put_all (marked_members_of members.old.items) no_marked_members) }
 {
     members.sort_by(|one, other| compared(one, other.0.as_str()))?;
     Ok(())
@@ -352,8 +359,11 @@ fn sort_by_name(members: &mut Vec<(TextBox, Option<u32>, Marked)>) -> Result<(),
 // Where the name stands among ascending members, or where it would go.
 fn search(members: &[(TextBox, Option<u32>, Marked)], name: &str) -> Result<usize, usize>
     requires { MembersOrdered (strip_members (marked_members_of members.now)) }
-    ensures within { MatchResult result (λ i. i < length members.now) (λ i. i ≤ length members.now) }
-    ensures place { MatchResult result (λ i. StandsAt (marked_names (marked_members_of members.now)) i name.now) (IsNameGap (marked_names (marked_members_of members.now)) name.now) }
+    ensures within { MatchResult result (λ i. i < length members.now)
+        (λ i. i ≤ length members.now) }
+    ensures place { MatchResult result
+        (λ i. StandsAt (marked_names (marked_members_of members.now)) i name.now)
+        (IsNameGap (marked_names (marked_members_of members.now)) name.now) }
 {
     members.binary_search_by(|member| compared(member, name))
 }
@@ -361,8 +371,11 @@ fn search(members: &[(TextBox, Option<u32>, Marked)], name: &str) -> Result<usiz
 // The same as `search`, by one comparison where the name comes after all others.
 fn search_from_end(members: &[(TextBox, Option<u32>, Marked)], name: &str) -> Result<usize, usize>
     requires { MembersOrdered (strip_members (marked_members_of members.now)) }
-    ensures within { MatchResult result (λ i. i < length members.now) (λ i. i ≤ length members.now) }
-    ensures place { MatchResult result (λ i. StandsAt (marked_names (marked_members_of members.now)) i name.now) (IsNameGap (marked_names (marked_members_of members.now)) name.now) }
+    ensures within { MatchResult result (λ i. i < length members.now)
+        (λ i. i ≤ length members.now) }
+    ensures place { MatchResult result
+        (λ i. StandsAt (marked_names (marked_members_of members.now)) i name.now)
+        (IsNameGap (marked_names (marked_members_of members.now)) name.now) }
 {
     match members.last() {
         Some(last) if compared(last, name) == Ordering::Less => Err(members.len()),
@@ -378,9 +391,12 @@ fn set(
 ) -> Result<(), NoMemory>
     requires members { MembersOrdered (strip_members (marked_members_of members.old.items)) }
     requires tree { IsOrdered (strip (marked_of tree)) }
-    ensures ok { OnOk result (marked_members_of members.new.items ≡ marked_inserted (marked_members_of members.old.items) name mark (marked_of tree)) }
+    ensures ok { OnOk result
+        (marked_members_of members.new.items
+        ≡ marked_inserted (marked_members_of members.old.items) name mark (marked_of tree)) }
     ensures ordered { MembersOrdered (strip_members (marked_members_of members.new.items)) }
-    ensures err { OnErr result (marked_members_of members.new.items ≡ marked_members_of members.old.items) }
+    ensures err { OnErr result
+        (marked_members_of members.new.items ≡ marked_members_of members.old.items) }
 {
     match search_from_end(members.as_slice(), name.as_str()) {
         Ok(position) => members[position] = (name, mark, tree),
@@ -397,9 +413,12 @@ fn add(
 ) -> Result<(), NoMemory>
     requires members { MembersOrdered (strip_members (marked_members_of members.old.items)) }
     requires tree { IsOrdered (strip (marked_of tree)) }
-    ensures ok { OnOk result (marked_members_of members.new.items ≡ put name mark (marked_of tree) (marked_members_of members.old.items)) }
+    ensures ok { OnOk result
+        (marked_members_of members.new.items
+        ≡ put name mark (marked_of tree) (marked_members_of members.old.items)) }
     ensures ordered { MembersOrdered (strip_members (marked_members_of members.new.items)) }
-    ensures err { OnErr result (marked_members_of members.new.items ≡ marked_members_of members.old.items) }
+    ensures err { OnErr result
+        (marked_members_of members.new.items ≡ marked_members_of members.old.items) }
 {
     if let Err(position) = search_from_end(members.as_slice(), name.as_str()) {
         members.insert(position, (name, mark, tree))?;

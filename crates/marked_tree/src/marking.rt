@@ -19,15 +19,18 @@ use sd_outside::NoMemory;
 use std::alloc::Global;
 use std::cmp::Ordering;
 
-/// The tree with a mark at each place that a path leads to, and with texts of its own. The marks count from 0 in
-/// closing order: members go by the bytes of their names, elements by position, and a place is numbered after all
-/// inside it. The paths are sorted once. Each step down finds those below where the last ones ended, or else by halves.
+/// The tree with a mark at each place that a path leads to, and with texts of its own. The marks
+/// count from 0 in closing order: members go by the bytes of their names, elements by position, and
+/// a place is numbered after all inside it. The paths are sorted once. Each step down finds those
+/// below where the last ones ended, or else by halves.
 pub fn mark(alloc: Global, tree: &Tree, paths: &PathList) -> Result<Marked, NoMemory>
     requires depth { depth_of (tree_of tree.now) ≤ json_depth_max }
     requires few { distinct_count same_path paths.now < 2 ^ 32 - 1 }
-    ensures marked { IfOk result (λ marked. marked_of marked ≡ mark_of (tree_of tree.now) paths.now) }
+    ensures marked { IfOk result
+        (λ marked. marked_of marked ≡ mark_of (tree_of tree.now) paths.now) }
     ensures strips { IfOk result (λ marked. strip (marked_of marked) ≡ tree_of tree.now) }
-    ensures count { IfOk result (λ _. hidden_count (tree_of tree.now) paths.now ≤ distinct_count same_path paths.now) }
+    ensures count { IfOk result
+        (λ _. hidden_count (tree_of tree.now) paths.now ≤ distinct_count same_path paths.now) }
 {
     let paths = copy_paths(alloc, paths)?;
     let tree = copy(alloc, tree)?;
@@ -35,7 +38,8 @@ pub fn mark(alloc: Global, tree: &Tree, paths: &PathList) -> Result<Marked, NoMe
     Ok(marked)
 }
 
-/// The same of a tree and paths that are given away: nothing is copied. It answers how many marks there are as well.
+/// The same of a tree and paths that are given away: nothing is copied. It
+/// answers how many marks there are as well.
 pub fn mark_counted(alloc: Global, tree: Tree, paths: PathList) -> Result<(Marked, u32), NoMemory>
     requires depth { depth_of (tree_of tree) ≤ json_depth_max }
     requires few { distinct_count same_path paths < 2 ^ 32 - 1 }
@@ -56,8 +60,10 @@ pub fn mark_counted(alloc: Global, tree: Tree, paths: PathList) -> Result<(Marke
 
 /// The different ones of the paths, in the order in which they are sorted. They alone are copied.
 pub fn different_paths(alloc: Global, paths: &PathList) -> Result<PathList, NoMemory>
-    ensures same { IfOk result (λ different. (path : Steps) → is_among different path ≡ is_among paths.now path) }
-    ensures count { IfOk result (λ different. length different ≡ distinct_count same_path paths.now) }
+    ensures same { IfOk result
+        (λ different. (path : Steps) → is_among different path ≡ is_among paths.now path) }
+    ensures count { IfOk result
+        (λ different. length different ≡ distinct_count same_path paths.now) }
 {
     let mut lent = lent_paths(alloc, paths)?;
     lent.sort_by(|one, other| compare_paths(one, other))?;
@@ -89,7 +95,8 @@ fn copies_of(alloc: Global, lent: &[&Path]) -> Result<PathList, NoMemory>
 
 // The paths in their order, each once.
 fn sorted_paths(paths: PathList) -> Result<Vec<Path>, NoMemory>
-    ensures same { IfOk result (λ sorted. (path : Steps) → is_among sorted.items path ≡ is_among paths path) }
+    ensures same { IfOk result
+        (λ sorted. (path : Steps) → is_among sorted.items path ≡ is_among paths path) }
     ensures sorted { IfOk result (λ sorted. AreSorted sorted.items) }
     ensures count { IfOk result (λ sorted. length sorted.items ≡ distinct_count same_path paths) }
 {
@@ -116,8 +123,11 @@ fn mark_tree(
     requires depth { paths.now.depth + depth_of (tree_of tree) ≤ json_depth_max }
     requires sorted { AreSorted (rests_of paths.now) }
     requires few { next.old + inner (rests_of paths.now) < 2 ^ 32 }
-    ensures marked { IfOk result (λ marked. marked_of marked ≡ mark_from (is_among (rests_of paths.now)) next.old (tree_of tree)) }
-    ensures next { OnOk result (next.new ≡ next.old + hidden_in (is_among (rests_of paths.now)) (tree_of tree)) }
+    ensures marked { IfOk result
+        (λ marked.
+        marked_of marked ≡ mark_from (is_among (rests_of paths.now)) next.old (tree_of tree)) }
+    ensures next { OnOk result
+        (next.new ≡ next.old + hidden_in (is_among (rests_of paths.now)) (tree_of tree)) }
     ensures few { OnOk result (next.new ≤ next.old + inner (rests_of paths.now)) }
 {
     match tree {
@@ -140,8 +150,10 @@ fn mark_list(
     requires depth { paths.now.depth + elements_depth trees ≤ 126 }
     requires sorted { AreSorted (rests_of paths.now) }
     requires few { next.old + inner (rests_of paths.now) < 2 ^ 32 }
-    ensures marked { IfOk result (λ marked. marked ≡ mark_elements (is_among (rests_of paths.now)) next.old 0 trees) }
-    ensures next { OnOk result (next.new ≡ next.old + hidden_elements (is_among (rests_of paths.now)) 0 trees) }
+    ensures marked { IfOk result
+        (λ marked. marked ≡ mark_elements (is_among (rests_of paths.now)) next.old 0 trees) }
+    ensures next { OnOk result
+        (next.new ≡ next.old + hidden_elements (is_among (rests_of paths.now)) 0 trees) }
     ensures few { OnOk result (next.new ≤ next.old + inner (rests_of paths.now)) }
 {
     let count = trees.len();
@@ -166,8 +178,10 @@ fn mark_map(
     requires depth { paths.now.depth + members_depth trees ≤ 126 }
     requires sorted { AreSorted (rests_of paths.now) }
     requires few { next.old + inner (rests_of paths.now) < 2 ^ 32 }
-    ensures marked { IfOk result (λ marked. marked ≡ mark_members (is_among (rests_of paths.now)) next.old trees) }
-    ensures next { OnOk result (next.new ≡ next.old + hidden_members (is_among (rests_of paths.now)) trees) }
+    ensures marked { IfOk result
+        (λ marked. marked ≡ mark_members (is_among (rests_of paths.now)) next.old trees) }
+    ensures next { OnOk result
+        (next.new ≡ next.old + hidden_members (is_among (rests_of paths.now)) trees) }
     ensures few { OnOk result (next.new ≤ next.old + inner (rests_of paths.now)) }
 {
     let mut marked = MarkedMap::with_capacity(alloc, trees.len())?;
@@ -179,8 +193,8 @@ fn mark_map(
     Ok(marked)
 }
 
-// The mark and the inside of the tree on a step: it is numbered after its inside. The paths on the step are looked
-// for first at `near`, which then stands behind them.
+// The mark and the inside of the tree on a step: it is numbered after its inside. The paths on the
+// step are looked for first at `near`, which then stands behind them.
 #[cycle(mark)]
 fn mark_at(
     alloc: Global,
@@ -193,9 +207,21 @@ fn mark_at(
     requires depth { paths.now.depth + depth_of (tree_of tree) ≤ 126 }
     requires sorted { AreSorted (rests_of paths.now) }
     requires few { next.old + headed step.now (rests_of paths.now) < 2 ^ 32 }
-    ensures own { IfOk result (λ marked. marked.0 ≡ mark_if (is_among (rests_of paths.now) (step.now ∷ [])) (next.old + hidden_in (test_below step.now (is_among (rests_of paths.now))) (tree_of tree))) }
-    ensures inside { IfOk result (λ marked. marked_of marked.1 ≡ mark_from (test_below step.now (is_among (rests_of paths.now))) next.old (tree_of tree)) }
-    ensures next { OnOk result (next.new ≡ next.old + (hidden_in (test_below step.now (is_among (rests_of paths.now))) (tree_of tree) + one_if (is_among (rests_of paths.now) (step.now ∷ [])))) }
+    ensures own { IfOk result
+        (λ marked. marked.0
+        ≡ mark_if (is_among (rests_of paths.now) (step.now ∷ []))
+        (next.old
+        + hidden_in (test_below step.now (is_among (rests_of paths.now)))
+        (tree_of tree))) }
+    ensures inside { IfOk result
+        (λ marked. marked_of marked.1
+        ≡ mark_from (test_below step.now (is_among (rests_of paths.now))) next.old
+        (tree_of tree)) }
+    ensures next { OnOk result
+        (next.new
+        ≡ next.old
+        + (hidden_in (test_below step.now (is_among (rests_of paths.now))) (tree_of tree)
+        + one_if (is_among (rests_of paths.now) (step.now ∷ [])))) }
     ensures few { OnOk result (next.new ≤ next.old + headed step.now (rests_of paths.now)) }
 {
     let below = paths.below(step, near);
@@ -212,13 +238,15 @@ struct PathsBelow<'a> {
 }
 
 impl<'a> PathsBelow<'a> {
-    // Those that come to the place one step further, looked for first at `near`, which then stands behind them.
+    // Those that come to the place one step further, looked for first at
+    // `near`, which then stands behind them.
     fn below(&self, step: &str, near: &mut usize) -> PathsBelow<'a>
         requires fits { self.now.depth ≤ 126 }
         requires sorted { AreSorted (rests_of self.now) }
         ensures depth { result.depth ≡ self.now.depth + 1 }
         ensures sorted { AreSorted (rests_of result) }
-        ensures below { (p : Steps) → is_among (rests_of result) p ≡ is_among (rests_of self.now) (step.now ∷ p) }
+        ensures below { (p : Steps)
+            → is_among (rests_of result) p ≡ is_among (rests_of self.now) (step.now ∷ p) }
         ensures count { length result.sorted.now ≡ headed step.now (rests_of self.now) }
     {
         let (start, count) = self.run_near(step, *near);
@@ -229,8 +257,8 @@ impl<'a> PathsBelow<'a> {
         }
     }
 
-    // Where those with the step stand in one run, and how many they are, looked for first at the place `near`: where
-    // steps are asked for in their order, the run begins there.
+    // Where those with the step stand in one run, and how many they are, looked for first at the
+    // place `near`: where steps are asked for in their order, the run begins there.
     fn run_near(&self, step: &str, near: usize) -> (usize, usize)
         requires sorted { AreSorted (rests_of self.now) }
         ensures { IsRunOfPaths self.now.depth step.now self.now.sorted.now result.0 result.1 }
@@ -261,14 +289,18 @@ impl<'a> PathsBelow<'a> {
     // Whether the path in front of the place, if there is one, comes before the step.
     fn is_lower_before(&self, position: usize, step: &str) -> bool
         requires { position ≤ length self.now.sorted.now }
-        ensures { IsTrue result → (d : Steps) → 0 < position → step_order (drop self.now.depth (slice_index_or self.now.sorted.now (position - 1) d)) step.now ≡ Less }
+        ensures { IsTrue result → (d : Steps) → 0 < position
+            → step_order (drop self.now.depth (slice_index_or self.now.sorted.now (position - 1) d))
+            step.now ≡ Less }
     {
         position == 0 || compared(&self.sorted[position - 1], self.depth, step) == Ordering::Less
     }
 
     // Whether there is a path at the place, and it comes before the step.
     fn is_lower(&self, position: usize, step: &str) -> bool
-        ensures { IsFalse result → (d : Steps) → position < length self.now.sorted.now → step_order (drop self.now.depth (slice_index_or self.now.sorted.now position d)) step.now ≢ Less }
+        ensures { IsFalse result → (d : Steps) → position < length self.now.sorted.now
+            → step_order (drop self.now.depth (slice_index_or self.now.sorted.now position d))
+            step.now ≢ Less }
     {
         position < self.sorted.len()
             && compared(&self.sorted[position], self.depth, step) == Ordering::Less
@@ -279,7 +311,9 @@ impl<'a> PathsBelow<'a> {
         requires sorted { AreSorted (rests_of self.now) }
         requires follow { Every (Follows self.now.depth step.now) self.now.sorted.now }
         ensures within { result ≤ length self.now.sorted.now }
-        ensures parted { Every (Compares Equal self.now.depth step.now) (take result self.now.sorted.now) × Every (Compares Greater self.now.depth step.now) (drop result self.now.sorted.now) }
+        ensures parted { Every (Compares Equal self.now.depth step.now)
+            (take result self.now.sorted.now)
+            × Every (Compares Greater self.now.depth step.now) (drop result self.now.sorted.now) }
     {
         if !self.has_step(0, step) {
             return 0;
@@ -298,8 +332,12 @@ impl<'a> PathsBelow<'a> {
     // Whether there is a path at the place, and it has the step.
     fn has_step(&self, position: usize, step: &str) -> bool
         ensures there { IsTrue result → position < length self.now.sorted.now }
-        ensures has { IsTrue result → (d : Steps) → step_order (drop self.now.depth (slice_index_or self.now.sorted.now position d)) step.now ≡ Equal }
-        ensures differs { IsFalse result → (d : Steps) → position < length self.now.sorted.now → step_order (drop self.now.depth (slice_index_or self.now.sorted.now position d)) step.now ≢ Equal }
+        ensures has { IsTrue result → (d : Steps)
+            → step_order (drop self.now.depth (slice_index_or self.now.sorted.now position d))
+            step.now ≡ Equal }
+        ensures differs { IsFalse result → (d : Steps) → position < length self.now.sorted.now
+            → step_order (drop self.now.depth (slice_index_or self.now.sorted.now position d))
+            step.now ≢ Equal }
     {
         position < self.sorted.len()
             && compared(&self.sorted[position], self.depth, step) == Ordering::Equal

@@ -11,8 +11,8 @@ use claim_tree::{Path, digits};
 use sd_outside::{NoMemory, TextBox};
 use std::alloc::Global;
 
-/// The path, in the tree without marks, of the first node with the mark: each node comes before those inside it,
-/// members come by the bytes of their names. None where no node has the mark.
+/// The path, in the tree without marks, of the first node with the mark: each node comes before
+/// those inside it, members come by the bytes of their names. None where no node has the mark.
 pub fn place_of(alloc: Global, tree: &Marked, mark: u32) -> Result<Option<Path>, NoMemory>
     requires { depth (strip (marked_of tree.now)) ≤ json_depth_max }
     ensures { IfOk result (λ path. path ≡ mark_path (marked_of tree.now) mark) }
@@ -27,7 +27,9 @@ pub fn place_of(alloc: Global, tree: &Marked, mark: u32) -> Result<Option<Path>,
 #[cycle(find)]
 fn find(alloc: Global, tree: &Marked, mark: u32) -> Result<Option<Vec<TextBox>>, NoMemory>
     requires { depth (strip (marked_of tree.now)) ≤ json_depth_max }
-    ensures { IfOk result (λ steps. option_map (λ s. reverse s.items) steps ≡ first_with mark (spots (marked_of tree.now))) }
+    ensures { IfOk result
+        (λ steps. option_map (λ s. reverse s.items) steps
+        ≡ first_with mark (spots (marked_of tree.now))) }
 {
     match tree {
         Marked::List(list) => find_element(alloc, list, mark),
@@ -44,7 +46,9 @@ fn find_element(
     mark: u32,
 ) -> Result<Option<Vec<TextBox>>, NoMemory>
     requires { elements_depth (strip_elements list.now) ≤ 126 }
-    ensures { IfOk result (λ steps. option_map (λ s. reverse s.items) steps ≡ first_with mark (elements_spots 0 list.now)) }
+    ensures { IfOk result
+        (λ steps.
+        option_map (λ s. reverse s.items) steps ≡ first_with mark (elements_spots 0 list.now)) }
 {
     for (i, element) in list.elements().iter().enumerate() {
         let (own, tree) = element;
@@ -60,7 +64,9 @@ fn find_element(
 #[tactic(auto, using(crate::proofs::MarkedWalks::into_member))]
 fn find_member(alloc: Global, map: &MarkedMap, mark: u32) -> Result<Option<Vec<TextBox>>, NoMemory>
     requires { members_depth (strip_members map.now) ≤ 126 }
-    ensures { IfOk result (λ steps. option_map (λ s. reverse s.items) steps ≡ first_with mark (members_spots map.now)) }
+    ensures { IfOk result
+        (λ steps.
+        option_map (λ s. reverse s.items) steps ≡ first_with mark (members_spots map.now)) }
 {
     for (name, own, tree) in map.members() {
         if let Some(mut steps) = find_at(alloc, *own, tree, mark)? {
@@ -80,7 +86,11 @@ fn find_at(
     mark: u32,
 ) -> Result<Option<Vec<TextBox>>, NoMemory>
     requires { depth (strip (marked_of tree.now)) ≤ json_depth_max }
-    ensures { IfOk result (λ steps. (step : List ℕ) → option_map (λ s. step ∷ reverse s.items) steps ≡ first_with mark (own_spot step own ++ map (inside step own) (spots (marked_of tree.now)))) }
+    ensures { IfOk result
+        (λ steps. (step : List ℕ)
+        → option_map (λ s. step ∷ reverse s.items) steps
+        ≡ first_with mark
+        (own_spot step own ++ map (inside step own) (spots (marked_of tree.now)))) }
 {
     if own == Some(mark) {
         return Ok(Some(Vec::new(alloc)));

@@ -10,12 +10,14 @@ use crate::{ChosenSet, Marked, MarkedList, MarkedMap};
 use sd_outside::{NoMemory, TextBox};
 use std::alloc::Global;
 
-/// The tree without each member and element whose mark is not kept, and all below it, with texts of its own. What
-/// has no mark stays.
+/// The tree without each member and element whose mark is not kept, and all
+/// below it, with texts of its own. What has no mark stays.
 pub fn prune(alloc: Global, tree: &Marked, kept: &ChosenSet) -> Result<Marked, NoMemory>
     requires { depth (strip (marked_of tree.now)) ≤ json_depth_max }
-    ensures value { IfOk result (λ pruned. marked_of pruned ≡ prune_of (marked_of tree.now) (has kept.now)) }
-    ensures shallow { IfOk result (λ pruned. depth (strip (marked_of pruned)) ≤ depth (strip (marked_of tree.now))) }
+    ensures value { IfOk result
+        (λ pruned. marked_of pruned ≡ prune_of (marked_of tree.now) (has kept.now)) }
+    ensures shallow { IfOk result
+        (λ pruned. depth (strip (marked_of pruned)) ≤ depth (strip (marked_of tree.now))) }
 {
     prune_tree(alloc, tree, kept)
 }
@@ -23,7 +25,8 @@ pub fn prune(alloc: Global, tree: &Marked, kept: &ChosenSet) -> Result<Marked, N
 #[cycle(prune)]
 fn prune_tree(alloc: Global, tree: &Marked, kept: &ChosenSet) -> Result<Marked, NoMemory>
     requires { depth (strip (marked_of tree.now)) ≤ json_depth_max }
-    ensures { IfOk result (λ pruned. marked_of pruned ≡ prune_of (marked_of tree.now) (has kept.now)) }
+    ensures { IfOk result
+        (λ pruned. marked_of pruned ≡ prune_of (marked_of tree.now) (has kept.now)) }
 {
     match tree {
         Marked::Null => Ok(Marked::Null),

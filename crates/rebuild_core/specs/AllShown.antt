@@ -1,4 +1,5 @@
--- Not needed to believe the program's promises: the converse of `OneNode`: where each disclosure is shown and each digest stands once, the conditions hold.
+-- Not needed to believe the program's promises: the converse of `OneNode`: where each disclosure is
+-- shown and each digest stands once, the conditions hold.
 use Rattle.std.specs.Prelude.{◌≡◌, ◌<◌, ◌≤◌, ℕ, List, length, true, is_some, bytes_eq}
 use Rattle.sd_outside.specs.Limits.{depth_max}
 use Rattle.claim_tree.specs.Tree.{Text, Tree, depth}
@@ -37,4 +38,5 @@ pub record AreAllShown (p : Tree) (given : List Given) : Type 0 where
   pub value_lists : (x : Given) → In x given → HasTextLists x.value
 
 abbrev pub ShownIsSound : Type 0
-ShownIsSound = (p : Tree) (given : List Given) → IsReadable p given → AreAllShown p given → IsSound p given
+ShownIsSound =
+    (p : Tree) (given : List Given) → IsReadable p given → AreAllShown p given → IsSound p given

@@ -1,5 +1,5 @@
--- The conditions on a payload, without its own `_sd_alg`, and its given disclosures (RFC 9901 section 7.1): each as what fails
--- it at a place.
+-- The conditions on a payload, without its own `_sd_alg`, and its given disclosures (RFC 9901
+-- section 7.1): each as what fails it at a place.
 use Rattle.std.specs.Prelude.{◌≡◌, ℕ, zero, suc, ◌<◌, List, [], true, false, Option, Some, None, ◌⊎◌}
 use Rattle.sd_outside.specs.Limits.{depth_max}
 use Rattle.claim_tree.specs.Tree.{Text, Tree, depth}
@@ -39,7 +39,9 @@ IsWrong SiteKind.Element (Some name) = Unit {0}
 
 -- disclosure i stands at a site of the met list where it is ill placed
 abbrev pub Stands : (OwnedSite → Given → Type 0) → Tree → List Given → ℕ → Type 0
-Stands IsIll p given i = (x : Given) × StandsAt given i x × (m : OwnedSite) × In m (met p given) × (m.site.digest ≡ x.digest) × IsIll m x
+Stands IsIll p given i =
+    (x : Given) × StandsAt given i x × (m : OwnedSite) × In m (met p given)
+    × (m.site.digest ≡ x.digest) × IsIll m x
 
 -- 18: disclosure i stands at a member site and has no name, or at an element site and has one
 abbrev pub WrongShape : Tree → List Given → ℕ → Type 0
@@ -47,25 +49,35 @@ WrongShape p given i = Stands (λ m x. IsWrong m.site.kind x.name) p given i
 
 -- `_sd` and `...` in any object, and `_sd_alg` in the payload itself
 abbrev pub IsReserved : OwnedSite → Text → Type 0
-IsReserved m name = (name ≡ sd_name) ⊎ ((name ≡ dots_name) ⊎ ((name ≡ alg_name) × (m.owner ≡ payload) × (m.site.at ≡ [])))
+IsReserved m name =
+    (name ≡ sd_name)
+    ⊎ ((name ≡ dots_name) ⊎ ((name ≡ alg_name) × (m.owner ≡ payload) × (m.site.at ≡ [])))
 
 -- 19: disclosure i stands at a member site and has a reserved name
 abbrev pub ReservedName : Tree → List Given → ℕ → Type 0
-ReservedName p given i = Stands (λ m x. (m.site.kind ≡ Member) × (name : Text) × (x.name ≡ Some name) × IsReserved m name) p given i
+ReservedName p given i =
+    Stands
+    (λ m x. (m.site.kind ≡ Member) × (name : Text) × (x.name ≡ Some name) × IsReserved m name) p
+    given i
 
 -- the site is a member site, its disclosure is there, and has the name
 abbrev pub Discloses : List Given → OwnedSite → Text → Type 0
-Discloses given m name = (m.site.kind ≡ Member) × (x : Given) × In x given × (x.digest ≡ m.site.digest) × (x.name ≡ Some name)
+Discloses given m name =
+    (m.site.kind ≡ Member) × (x : Given) × In x given × (x.digest ≡ m.site.digest)
+    × (x.name ≡ Some name)
 
 -- an earlier site of the same object discloses the name
 abbrev pub EarlierName : Tree → List Given → ℕ → OwnedSite → Text → Type 0
 EarlierName p given place m name =
-    (j : ℕ) × (j < place) × (e : OwnedSite) × StandsAt (met p given) j e × (e.owner ≡ m.owner) × (e.site.at ≡ m.site.at) × Discloses given e name
+    (j : ℕ) × (j < place) × (e : OwnedSite) × StandsAt (met p given) j e × (e.owner ≡ m.owner)
+    × (e.site.at ≡ m.site.at) × Discloses given e name
 
--- 20: the name disclosed at this place of the met list is a member of its object, or is disclosed at an earlier site of it
+-- 20: the name disclosed at this place of the met list is a member of its
+-- object, or is disclosed at an earlier site of it
 abbrev pub NameClash : Tree → List Given → ℕ → Type 0
 NameClash p given place =
-    (m : OwnedSite) × StandsAt (met p given) place m × (name : Text) × Discloses given m name × (In name m.site.beside ⊎ EarlierName p given place m name)
+    (m : OwnedSite) × StandsAt (met p given) place m × (name : Text) × Discloses given m name
+    × (In name m.site.beside ⊎ EarlierName p given place m name)
 
 -- 21: the processed payload nests too deep
 abbrev pub IsTooDeep : Tree → List Given → Type 0

@@ -22,27 +22,33 @@ abbrev mutual
 
   pub elements_digests : Elements → List Text
   elements_digests no_elements = []
-  elements_digests (element t es) = digests_on (element_digest t) (tree_digests t) ++ elements_digests es
+  elements_digests (element t es) =
+      digests_on (element_digest t) (tree_digests t) ++ elements_digests es
 
   pub members_digests : Members → List Text
   members_digests no_members = []
-  members_digests (member name t ms) = (if bytes_eq name sd_name then [] else tree_digests t) ++ members_digests ms
+  members_digests (member name t ms) =
+      (if bytes_eq name sd_name then [] else tree_digests t) ++ members_digests ms
 
 -- what number k says of the digest that it stands for
 pub record NumberTells (given : List Given) (k : ℕ) (digest : Text) : Type 0 where
-  pub known : (x : Given) → StandsAt given k x → reveal (length given) given digest ≡ shown k x.name (opened (length given) given x.value)
+  pub known : (x : Given) → StandsAt given k x
+      → reveal (length given) given digest ≡ shown k x.name (opened (length given) given x.value)
   pub unknown : length given ≤ k → reveal (length given) given digest ≡ nothing_shown
 
 -- the first numbers tell of the digests
 abbrev pub TellFirst : List Given → List ℕ → List Text → Type 0
 TellFirst given ks [] = Unit {0}
 TellFirst given [] (digest ∷ digests) = ⊥
-TellFirst given (k ∷ ks) (digest ∷ digests) = NumberTells given k digest × TellFirst given ks digests
+TellFirst given (k ∷ ks) (digest ∷ digests) =
+    NumberTells given k digest × TellFirst given ks digests
 
 -- where the numbers end that come before, those of the value of each disclosure begin
 abbrev pub TellEach : (Tree → List Text) → List Given → List ℕ → List ℕ → Type 0
 TellEach digests_of given numbers ends =
-    (j : ℕ) (x : Given) → StandsAt given j x → (start : ℕ) × StandsAt ends j start × TellFirst given (drop start numbers) (digests_of x.value)
+    (j : ℕ) (x : Given) → StandsAt given j x
+    → (start : ℕ) × StandsAt ends j start
+    × TellFirst given (drop start numbers) (digests_of x.value)
 
 -- the first numbers tell of the digests of the payload's sites, and others of those of each value
 pub record NumbersTell (p : Tree) (given : List Given) (numbers ends : List ℕ) : Type 0 where

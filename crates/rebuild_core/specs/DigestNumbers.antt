@@ -28,16 +28,20 @@ AllAt known [] (t ∷ texts) = ⊥
 AllAt known (k ∷ ks) [] = ⊥
 AllAt known (k ∷ ks) (t ∷ texts) = StandsAt known k t × AllAt known ks texts
 
--- the numbers of the digests of a payload and of each value, with where those of each tree end: distinct texts are known, those
--- of the disclosures first
-pub record IsFlatList (t : Tree) (given : List Given) (known : List Text) (ks ends : List ℕ) : Type 0 where
+-- the numbers of the digests of a payload and of each value, with where those of each tree end:
+-- distinct texts are known, those of the disclosures first
+pub record IsFlatList (t : Tree) (given : List Given) (known : List Text) (ks ends : List ℕ)
+    : Type 0 where
   pub apart : AtNone (Repeats known)
   pub given_first : (i : ℕ) (x : Given) → StandsAt given i x → StandsAt known i x.digest
   pub all : AllAt known ks (owned_digests (all_sites (without_alg t) given))
   pub cuts : ends ≡ row_ends t given
 
--- number k at a position of the met list stands for the digest of disclosure k, and another number for no given digest
+-- number k at a position of the met list stands for the digest of disclosure k,
+-- and another number for no given digest
 pub record IsNumbered (p : Tree) (given : List Given) (ks : List ℕ) : Type 0 where
   pub length : length ks ≡ length (met p given)
-  pub same : (position k : ℕ) (m : OwnedSite) (x : Given) → StandsAt ks position k → StandsAt (met p given) position m → StandsAt given k x → m.site.digest ≡ x.digest
-  pub back : (position k i : ℕ) (m : OwnedSite) (x : Given) → StandsAt ks position k → StandsAt (met p given) position m → StandsAt given i x → m.site.digest ≡ x.digest → k ≡ i
+  pub same : (position k : ℕ) (m : OwnedSite) (x : Given) → StandsAt ks position k
+      → StandsAt (met p given) position m → StandsAt given k x → m.site.digest ≡ x.digest
+  pub back : (position k i : ℕ) (m : OwnedSite) (x : Given) → StandsAt ks position k
+      → StandsAt (met p given) position m → StandsAt given i x → m.site.digest ≡ x.digest → k ≡ i

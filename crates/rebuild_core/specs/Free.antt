@@ -7,7 +7,9 @@ use Rattle.rebuild_core.specs.Payload.{alg_name}
 
 -- the name is neither `_sd` nor `...` nor `_sd_alg`
 abbrev pub IsFree : Text → Type 0
-IsFree name = (bytes_eq name sd_name ≡ false) × (bytes_eq name dots_name ≡ false) × (bytes_eq name alg_name ≡ false)
+IsFree name =
+    (bytes_eq name sd_name ≡ false) × (bytes_eq name dots_name ≡ false)
+    × (bytes_eq name alg_name ≡ false)
 
 -- no member of any object has a reserved name
 abbrev pub HasNoReserved : Tree → Type 0

@@ -30,7 +30,8 @@ any_row passes k i (row ∷ rows) = (passes i && has row k) || any_row passes k 
 -- k stands in the roots, or in the row of a number of the round before
 abbrev pub is_met_in : List ℕ → List (List ℕ) → ℕ → ℕ → Bool
 is_met_in roots rows zero k = has roots k
-is_met_in roots rows (suc round) k = is_met_in roots rows round k || any_row (is_met_in roots rows round) k 0 rows
+is_met_in roots rows (suc round) k =
+    is_met_in roots rows round k || any_row (is_met_in roots rows round) k 0 rows
 
 -- which numbers are marked, and in which order
 abbrev pub Marks : Type 0

@@ -22,23 +22,31 @@ use Rattle.rebuild_core.specs.Readable.{IsReadable}
 
 -- exactly one item of the met list has the digest
 abbrev pub StandsOnce : Tree → List Given → Text → Type 0
-StandsOnce p given digest = (place : ℕ) × StandsAt (owned_digests (met p given)) place digest × ((other : ℕ) → StandsAt (owned_digests (met p given)) other digest → other ≡ place)
+StandsOnce p given digest =
+    (place : ℕ) × StandsAt (owned_digests (met p given)) place digest
+    × ((other : ℕ) → StandsAt (owned_digests (met p given)) other digest → other ≡ place)
 
 -- disclosure i stands at a site of the owner
 abbrev pub StandsIn : Tree → List Given → ℕ → Owner → Type 0
-StandsIn p given i owner = (x : Given) × StandsAt given i x × (s : Site) × In (owned_site owner s) (met p given) × (s.digest ≡ x.digest)
+StandsIn p given i owner =
+    (x : Given) × StandsAt given i x × (s : Site) × In (owned_site owner s) (met p given)
+    × (s.digest ≡ x.digest)
 
 -- from this owner, the owner of the site of each disclosure in turn, up to the payload
 abbrev pub LeadsUp : Tree → List Given → Owner → List ℕ → Type 0
 LeadsUp p given owner [] = owner ≡ payload
-LeadsUp p given owner (i ∷ is) = (owner ≡ value_of i) × (above : Owner) × StandsIn p given i above × LeadsUp p given above is
+LeadsUp p given owner (i ∷ is) =
+    (owner ≡ value_of i) × (above : Owner) × StandsIn p given i above × LeadsUp p given above is
 
--- each disclosure stands at one place, from which the owners lead to the payload with none twice, and opening needs no more
--- fuel than there are disclosures
+-- each disclosure stands at one place, from which the owners lead to the payload with none twice,
+-- and opening needs no more fuel than there are disclosures
 pub record HasOneSite (p : Tree) (given : List Given) : Type 0 where
   pub once : (i : ℕ) (x : Given) → StandsAt given i x → StandsOnce p given x.digest
-  pub leads : (i : ℕ) (x : Given) → StandsAt given i x → (is : List ℕ) × LeadsUp p given (value_of i) is × (length is ≤ length given) × IsDistinct eqb is
-  pub settled : (fuel : ℕ) → length given ≤ fuel → opened fuel given p ≡ opened (length given) given p
+  pub leads : (i : ℕ) (x : Given) → StandsAt given i x
+      → (is : List ℕ) × LeadsUp p given (value_of i) is × (length is ≤ length given)
+      × IsDistinct eqb is
+  pub settled : (fuel : ℕ) → length given ≤ fuel
+      → opened fuel given p ≡ opened (length given) given p
 
 abbrev pub OneSite : Type 0
 OneSite = (p : Tree) (given : List Given) → IsReferencedOnce p given → HasOneSite p given
@@ -85,34 +93,44 @@ abbrev pub renumbered : List ℕ → Marked → Marked
 renumbered order m = remark (position_from 0 order) m
 
 -- what is presented is sound again, and shows what was not left out
-pub record IsPresentation (p : Tree) (given picked : List Given) (choice : ℕ → Bool) (order : List ℕ) : Type 0 where
+pub record IsPresentation (p : Tree) (given picked : List Given) (choice : ℕ → Bool)
+    (order : List ℕ) : Type 0 where
   pub sound : IsSound p picked
   pub pruned : processed p picked ≡ renumbered order (prune (processed p given) choice)
 
 abbrev pub Presentation : Type 0
 Presentation =
     (p : Tree) (given : List Given) → IsReadable p given → IsSound p given
-    → (choice : ℕ → Bool) → ((i : ℕ) → choice i ≡ true → i < length given) → IsClosed (processed p given) choice
+    → (choice : ℕ → Bool) → ((i : ℕ) → choice i ≡ true → i < length given)
+    → IsClosed (processed p given) choice
     → (order : List ℕ) → Enumerates choice order → (picked : List Given) → IsPick given order picked
     → IsPresentation p given picked choice order
 
 -- in rising order the positions are the ranks
 abbrev pub Ranks : Type 0
-Ranks = (m : Marked) (choice : ℕ → Bool) (order : List ℕ) → Enumerates choice order → IsRising order → renumbered order (prune m choice) ≡ ranked (prune m choice) choice
+Ranks =
+    (m : Marked) (choice : ℕ → Bool) (order : List ℕ) → Enumerates choice order → IsRising order
+    → renumbered order (prune m choice) ≡ ranked (prune m choice) choice
 
--- of the disclosures on the way to wanted paths: they are sound again, and show the processed payload without what is hidden and
--- leads to none of these; each mark is its rank among the chosen
+-- of the disclosures on the way to wanted paths: they are sound again, and show the processed
+-- payload without what is hidden and leads to none of these; each mark is its rank among the chosen
 pub record IsChoiceShown (p : Tree) (given picked : List Given) (want : List Path) : Type 0 where
   pub sound : IsSound p picked
-  pub ranks : processed p picked ≡ ranked (prune (processed p given) (chosen (processed p given) want)) (chosen (processed p given) want)
-  pub shows : strip (processed p picked) ≡ strip (prune (processed p given) (chosen (processed p given) want))
+  pub ranks : processed p picked
+      ≡ ranked (prune (processed p given) (chosen (processed p given) want))
+      (chosen (processed p given) want)
+  pub shows : strip (processed p picked)
+      ≡ strip (prune (processed p given) (chosen (processed p given) want))
 
 -- the chosen disclosures in their order
 abbrev pub ChoiceShown : Type 0
 ChoiceShown =
     (p : Tree) (given : List Given) → IsReadable p given → IsSound p given
-    → (want : List Path) (order : List ℕ) → Enumerates (chosen (processed p given) want) order → IsRising order
+    → (want : List Path) (order : List ℕ) → Enumerates (chosen (processed p given) want) order
+    → IsRising order
     → (picked : List Given) → IsPick given order picked → IsChoiceShown p given picked want
 
 abbrev pub OneNode : Type 0
-OneNode = (p : Tree) (given : List Given) → IsReadable p given → IsSound p given → HasEachMarkOnce (processed p given) (length given)
+OneNode =
+    (p : Tree) (given : List Given) → IsReadable p given → IsSound p given
+    → HasEachMarkOnce (processed p given) (length given)

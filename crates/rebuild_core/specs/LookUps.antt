@@ -4,7 +4,8 @@ use Rattle.claim_tree.specs.Tree.{Tree}
 use Rattle.digest_sites.specs.Sites.{sites}
 use Rattle.digest_sites.specs.Given.{Given}
 
--- how often the index of digests is asked: once for each site of the payload and of every value, and once for each disclosure
+-- how often the index of digests is asked: once for each site of the payload
+-- and of every value, and once for each disclosure
 abbrev pub look_ups : Tree → List Given → ℕ
 look_ups p given = length (sites p) + (sum_by (λ x. length (sites x.value)) given + length given)
 

@@ -9,10 +9,13 @@ use Rattle.rebuild_core.specs.declared.graph.Graph.{Graph}
 
 -- the numbers of the payload, and then those of the values that are flagged
 abbrev pub met_in : Graph → List Bool → List ℕ
-met_in graph flags = roots_in graph.ends.items graph.numbers.items ++ flagged_rows flags (rows_in graph.ends.items graph.numbers.items)
+met_in graph flags =
+    roots_in graph.ends.items graph.numbers.items
+    ++ flagged_rows flags (rows_in graph.ends.items graph.numbers.items)
 
 -- memory ended, or a disclosure is given twice
 abbrev pub IsGivenRefusal : List Given → ProcessError → Type 0
 IsGivenRefusal given ProcessError.Memory = Unit {0}
-IsGivenRefusal given (ProcessError.RepeatedDisclosure i) = IsLeast (fails.RepeatedDisclosure given) i
+IsGivenRefusal given (ProcessError.RepeatedDisclosure i) =
+    IsLeast (fails.RepeatedDisclosure given) i
 IsGivenRefusal given error = ⊥

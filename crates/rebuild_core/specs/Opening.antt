@@ -1,4 +1,5 @@
--- Opening: each digest that a disclosure has gives way to the value of that disclosure, opened likewise (RFC 9901 section 7.1).
+-- Opening: each digest that a disclosure has gives way to the value of that
+-- disclosure, opened likewise (RFC 9901 section 7.1).
 use Rattle.std.specs.Prelude.{ℕ, zero, suc, List, [], ◌∷◌, length, Option, Some, None, bytes_eq, if◌then◌else◌}
 use Rattle.claim_tree.specs.Tree.{Text, Tree, leaf, array, object, Elements, no_elements, element, Members, no_members, member}
 use Rattle.digest_sites.specs.Reserved.{sd_name, sd_texts, element_digest}
@@ -6,7 +7,8 @@ use Rattle.digest_sites.specs.Given.{Given}
 use Rattle.marked_tree.specs.Marked.{Marked, marked_leaf, marked_array, marked_object, MarkedElements, no_marked_elements, marked_element, MarkedMembers, no_marked_members, marked_member, put}
 use Rattle.rebuild_core.specs.Reached.{find}
 
--- what a digest shows: nothing, or a disclosure with its number, its name or none, and its opened value
+-- what a digest shows: nothing, or a disclosure with its number, its name or
+-- none, and its opened value
 pub data Shown : Type 0 where
   nothing_shown : Shown
   shown : ℕ → Option Text → Marked → Shown
@@ -25,7 +27,8 @@ show_member (shown i (Some name) t) ms = put name (Some i) t ms
 
 abbrev pub show_members : (Text → Shown) → List Text → MarkedMembers → MarkedMembers
 show_members reveals [] ms = ms
-show_members reveals (digest ∷ digests) ms = show_members reveals digests (show_member (reveals digest) ms)
+show_members reveals (digest ∷ digests) ms =
+    show_members reveals digests (show_member (reveals digest) ms)
 
 abbrev pub open_element : (Text → Shown) → Option Text → Marked → MarkedElements → MarkedElements
 open_element reveals None t es = marked_element None t es
@@ -36,16 +39,20 @@ abbrev mutual
   pub open_tree : (Text → Shown) → Tree → Marked
   open_tree reveals (leaf l) = marked_leaf l
   open_tree reveals (array es) = marked_array (open_elements reveals es)
-  open_tree reveals (object ms) = marked_object (show_members reveals (sd_texts ms) (open_members reveals ms))
+  open_tree reveals (object ms) =
+      marked_object (show_members reveals (sd_texts ms) (open_members reveals ms))
 
   pub open_elements : (Text → Shown) → Elements → MarkedElements
   open_elements reveals no_elements = no_marked_elements
-  open_elements reveals (element t es) = open_element reveals (element_digest t) (open_tree reveals t) (open_elements reveals es)
+  open_elements reveals (element t es) =
+      open_element reveals (element_digest t) (open_tree reveals t) (open_elements reveals es)
 
   -- `_sd` itself is left out
   pub open_members : (Text → Shown) → Members → MarkedMembers
   open_members reveals no_members = no_marked_members
-  open_members reveals (member name t ms) = if bytes_eq name sd_name then open_members reveals ms else marked_member name None (open_tree reveals t) (open_members reveals ms)
+  open_members reveals (member name t ms) =
+      if bytes_eq name sd_name then open_members reveals ms
+      else marked_member name None (open_tree reveals t) (open_members reveals ms)
 
 abbrev pub shown_by : (Tree → Marked) → Option (ℕ × Given) → Shown
 shown_by opens None = nothing_shown

@@ -1,4 +1,5 @@
--- Which given disclosures a payload reaches, and the digests that are met there, RFC 9901 section 7.1.
+-- Which given disclosures a payload reaches, and the digests that are met
+-- there, RFC 9901 section 7.1.
 use Rattle.std.specs.Prelude.{ℕ, zero, suc, List, [], ◌∷◌, ◌++◌, map, length, Bool, true, ◌||◌, ◌&&◌, Option, Some, None, bytes_eq, if◌then◌else◌}
 use Rattle.std.specs.List.{list_any}
 use Rattle.claim_tree.specs.Tree.{Text, Tree}
@@ -11,7 +12,8 @@ given_digests given = map (λ x. x.digest) given
 -- the first disclosure with the digest, with its number, counted from i
 abbrev pub find_from : ℕ → List Given → Text → Option (ℕ × Given)
 find_from i [] digest = None
-find_from i (x ∷ given) digest = if bytes_eq x.digest digest then Some (i, x) else find_from (suc i) given digest
+find_from i (x ∷ given) digest =
+    if bytes_eq x.digest digest then Some (i, x) else find_from (suc i) given digest
 
 abbrev pub find : List Given → Text → Option (ℕ × Given)
 find given digest = find_from 0 given digest
@@ -20,12 +22,14 @@ find given digest = find_from 0 given digest
 abbrev pub stands : Text → List Site → Bool
 stands digest ss = list_any (λ s. bytes_eq s.digest digest) ss
 
--- the digest stands in the payload, or in the value of a disclosure whose digest is one of the round before
+-- the digest stands in the payload, or in the value of a disclosure whose
+-- digest is one of the round before
 abbrev pub is_in_round : Tree → List Given → ℕ → Text → Bool
 is_in_round payload given zero digest = stands digest (sites payload)
 is_in_round payload given (suc round) digest =
     is_in_round payload given round digest
-    || list_any (λ x. is_in_round payload given round x.digest && stands digest (sites x.value)) given
+    || list_any (λ x. is_in_round payload given round x.digest && stands digest (sites x.value))
+    given
 
 abbrev pub is_reached : Tree → List Given → Given → Bool
 is_reached payload given x = is_in_round payload given (length given) x.digest
@@ -42,10 +46,13 @@ pub record OwnedSite : Type 0 where
 abbrev pub owned_site : Owner → Site → OwnedSite
 owned_site owner site = record { owner = owner; site = site }
 
--- the sites of the values of those disclosures that pass, where the first disclosure has the number i
+-- the sites of the values of those disclosures that pass, where the first
+-- disclosure has the number i
 abbrev pub value_sites : (Given → Bool) → ℕ → List Given → List OwnedSite
 value_sites passes i [] = []
-value_sites passes i (x ∷ given) = (if passes x then map (owned_site (value_of i)) (sites x.value) else []) ++ value_sites passes (suc i) given
+value_sites passes i (x ∷ given) =
+    (if passes x then map (owned_site (value_of i)) (sites x.value) else [])
+    ++ value_sites passes (suc i) given
 
 -- the met list: the sites of the payload, then those of the values of the reached disclosures
 abbrev pub met : Tree → List Given → List OwnedSite

@@ -1,4 +1,5 @@
--- For private functions: conditions 18 to 20 over the flat list of digests, whose numbers tell the disclosures.
+-- For private functions: conditions 18 to 20 over the flat list of digests,
+-- whose numbers tell the disclosures.
 use Rattle.std.specs.Prelude.{◌≡◌, ℕ, ◌<◌, List, true, Option, Some, None, option_and_then, slice_get, ◌⊎◌}
 use Rattle.claim_tree.specs.Tree.{Text}
 use Rattle.claim_tree.specs.Lists.{StandsAt, In}
@@ -15,18 +16,23 @@ abbrev pub IsWrongRow : SeenRow → Given → Type 0
 IsWrongRow row x = IsWrong row.kind x.name
 
 abbrev pub IsReservedIn : SeenRow → Text → Type 0
-IsReservedIn row name = (name ≡ sd_name) ⊎ ((name ≡ dots_name) ⊎ ((name ≡ alg_name) × (row.top ≡ true)))
+IsReservedIn row name =
+    (name ≡ sd_name) ⊎ ((name ≡ dots_name) ⊎ ((name ≡ alg_name) × (row.top ≡ true)))
 
 abbrev pub IsReservedRow : SeenRow → Given → Type 0
-IsReservedRow row x = (row.kind ≡ Member) × (name : Text) × (x.name ≡ Some name) × IsReservedIn row name
+IsReservedRow row x =
+    (row.kind ≡ Member) × (name : Text) × (x.name ≡ Some name) × IsReservedIn row name
 
 abbrev pub IsMisfit : Misfit → SeenRow → Given → Type 0
 IsMisfit Misfit.Shape = IsWrongRow
 IsMisfit Misfit.Name = IsReservedRow
 
 -- disclosure i stands at a row where it is ill placed
-abbrev pub StandsAtRow : (SeenRow → Given → Type 0) → List SeenRow → List ℕ → List Given → ℕ → Type 0
-StandsAtRow IsIll rows numbers given i = (place : ℕ) × StandsAt numbers place i × (row : SeenRow) × StandsAt rows place row × (x : Given) × StandsAt given i x × IsIll row x
+abbrev pub StandsAtRow : (SeenRow → Given → Type 0) → List SeenRow → List ℕ → List Given → ℕ
+    → Type 0
+StandsAtRow IsIll rows numbers given i =
+    (place : ℕ) × StandsAt numbers place i × (row : SeenRow) × StandsAt rows place row × (x : Given)
+    × StandsAt given i x × IsIll row x
 
 -- the name that disclosure i gives to a member
 abbrev pub given_name : SiteKind → List Given → ℕ → Option Text
@@ -35,10 +41,15 @@ given_name SiteKind.Element given i = None
 
 -- at this place of the list stands this row, and a disclosure that gives this name to a member
 abbrev pub NamesAt : List SeenRow → List ℕ → List Given → ℕ → SeenRow → Text → Type 0
-NamesAt rows numbers given place row name = StandsAt rows place row × (i : ℕ) × StandsAt numbers place i × (given_name row.kind given i ≡ Some name)
+NamesAt rows numbers given place row name =
+    StandsAt rows place row × (i : ℕ) × StandsAt numbers place i
+    × (given_name row.kind given i ≡ Some name)
 
 -- the name at this place is a member of its object, or stands at an earlier place of it
 abbrev pub Clashes : List SeenRow → List ℕ → List Given → ℕ → Type 0
 Clashes rows numbers given place =
     (row : SeenRow) × (name : Text) × NamesAt rows numbers given place row name
-    × (In name row.beside ⊎ ((j : ℕ) × (j < place) × (other : SeenRow) × NamesAt rows numbers given j other name × (other.object ≡ row.object)))
+    ×
+    (In name row.beside
+    ⊎ ((j : ℕ) × (j < place) × (other : SeenRow) × NamesAt rows numbers given j other name
+    × (other.object ≡ row.object)))

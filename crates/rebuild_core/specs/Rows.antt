@@ -10,7 +10,8 @@ use Rattle.digest_sites.specs.declared.site.SiteKind.TheVariants.{Member, Elemen
 use Rattle.rebuild_core.specs.Payload.{alg_name}
 use Rattle.rebuild_core.specs.declared.rows.Row.{Row}
 
--- what a row says of a digest: whether it stands in the payload's own object, and the number of its object
+-- what a row says of a digest: whether it stands in the payload's own object,
+-- and the number of its object
 pub record SeenRow : Type 0 where
   pub kind : SiteKind
   pub digest : Text
@@ -27,35 +28,50 @@ names_beside top None = []
 names_beside top (Some ms) = beside_names top ms.now
 
 abbrev pub seen : Row → SeenRow
-seen row = record { kind = row.kind; digest = row.digest.now; beside = names_beside row.top row.beside; top = row.top; object = row.object }
+seen row =
+    record {
+      kind = row.kind;
+      digest = row.digest.now;
+      beside = names_beside row.top row.beside;
+      top = row.top;
+      object = row.object;
+    }
 
 abbrev pub own_row : Bool → ℕ → List Text → Text → SeenRow
-own_row top n beside digest = record { kind = Member; digest = digest; beside = beside; top = top; object = n }
+own_row top n beside digest =
+    record { kind = Member; digest = digest; beside = beside; top = top; object = n }
 
 abbrev pub rows_on : ℕ → Option Text → List SeenRow → List SeenRow
 rows_on n None inside = inside
-rows_on n (Some digest) inside = record { kind = Element; digest = digest; beside = []; top = false; object = n } ∷ []
+rows_on n (Some digest) inside =
+    record { kind = Element; digest = digest; beside = []; top = false; object = n } ∷ []
 
--- the digests of a tree in the order of its sites, where n come before; the number of an object is the place of its first digest
+-- the digests of a tree in the order of its sites, where n come before; the
+-- number of an object is the place of its first digest
 abbrev mutual
   pub tree_rows : Bool → ℕ → Tree → List SeenRow
   tree_rows top n (leaf l) = []
   tree_rows top n (array es) = element_rows n es
-  tree_rows top n (object ms) = map (own_row top n (beside_names top ms)) (sd_texts ms) ++ member_rows (n + length (sd_texts ms)) ms
+  tree_rows top n (object ms) =
+      map (own_row top n (beside_names top ms)) (sd_texts ms)
+      ++ member_rows (n + length (sd_texts ms)) ms
 
   pub element_rows : ℕ → Elements → List SeenRow
   element_rows n no_elements = []
   element_rows n (element t es) =
-      rows_on n (element_digest t) (tree_rows false n t) ++ element_rows (n + length (rows_on n (element_digest t) (tree_rows false n t))) es
+      rows_on n (element_digest t) (tree_rows false n t)
+      ++ element_rows (n + length (rows_on n (element_digest t) (tree_rows false n t))) es
 
   pub member_rows : ℕ → Members → List SeenRow
   member_rows n no_members = []
   member_rows n (member name t ms) =
-      (if bytes_eq name sd_name then [] else tree_rows false n t) ++ member_rows (n + length (if bytes_eq name sd_name then [] else tree_rows false n t)) ms
+      (if bytes_eq name sd_name then [] else tree_rows false n t)
+      ++ member_rows (n + length (if bytes_eq name sd_name then [] else tree_rows false n t)) ms
 
 abbrev pub value_rows : ℕ → List Given → List SeenRow
 value_rows n [] = []
-value_rows n (x ∷ given) = tree_rows false n x.value ++ value_rows (n + length (tree_rows false n x.value)) given
+value_rows n (x ∷ given) =
+    tree_rows false n x.value ++ value_rows (n + length (tree_rows false n x.value)) given
 
 -- those of the payload, then those of each value
 abbrev pub all_rows : Tree → List Given → List SeenRow
@@ -64,7 +80,9 @@ all_rows p given = tree_rows true 0 p ++ value_rows (length (tree_rows true 0 p)
 -- where the rows of each value end, where n come before
 abbrev pub value_ends : ℕ → List Given → List ℕ
 value_ends n [] = []
-value_ends n (x ∷ given) = (n + length (tree_rows false n x.value)) ∷ value_ends (n + length (tree_rows false n x.value)) given
+value_ends n (x ∷ given) =
+    (n + length (tree_rows false n x.value))
+    ∷ value_ends (n + length (tree_rows false n x.value)) given
 
 -- where the rows of the payload end, and then those of each value
 abbrev pub row_ends : Tree → List Given → List ℕ

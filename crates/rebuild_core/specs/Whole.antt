@@ -37,7 +37,8 @@ shown_member (shown i (Some name) t) ms = marked_member name (Some i) t ms
 -- what the digests show, in their order
 abbrev pub shown_members : (Text → Shown) → List Text → MarkedMembers
 shown_members reveals [] = no_marked_members
-shown_members reveals (digest ∷ digests) = shown_member (reveals digest) (shown_members reveals digests)
+shown_members reveals (digest ∷ digests) =
+    shown_member (reveals digest) (shown_members reveals digests)
 
 -- the object that opened members are, the hidden put there in turn
 abbrev pub whole_object : OpenedMembers → Marked
@@ -59,7 +60,8 @@ shown_depth (shown i name t) = depth (strip t)
 -- the greatest
 abbrev pub shown_depths : (Text → Shown) → List Text → ℕ
 shown_depths reveals [] = 0
-shown_depths reveals (digest ∷ digests) = max (shown_depth (reveals digest)) (shown_depths reveals digests)
+shown_depths reveals (digest ∷ digests) =
+    max (shown_depth (reveals digest)) (shown_depths reveals digests)
 
 -- ---- the payload's own object
 
@@ -82,7 +84,8 @@ IsNew (shown i (Some name) t) ms = In name (marked_names ms) → ⊥
 -- each of them, beside those that are put before it
 abbrev pub AllNew : (Text → Shown) → List Text → MarkedMembers → Type 0
 AllNew reveals [] ms = Unit {0}
-AllNew reveals (digest ∷ digests) ms = IsNew (reveals digest) ms × AllNew reveals digests (show_member (reveals digest) ms)
+AllNew reveals (digest ∷ digests) ms =
+    IsNew (reveals digest) ms × AllNew reveals digests (show_member (reveals digest) ms)
 
 -- an element, where it is shown
 abbrev pub IsElement : Shown → Type 0
@@ -105,15 +108,18 @@ abbrev mutual
   pub OpensWhole : (Text → Shown) → Tree → Type 0
   OpensWhole reveals (leaf l) = Unit {0}
   OpensWhole reveals (array es) = ElementsWhole reveals es
-  OpensWhole reveals (object ms) = AllNew reveals (sd_texts ms) (open_members reveals ms) × MembersWhole reveals ms
+  OpensWhole reveals (object ms) =
+      AllNew reveals (sd_texts ms) (open_members reveals ms) × MembersWhole reveals ms
 
   pub ElementsWhole : (Text → Shown) → Elements → Type 0
   ElementsWhole reveals no_elements = Unit {0}
-  ElementsWhole reveals (element t es) = WholeOn reveals (element_digest t) (OpensWhole reveals t) × ElementsWhole reveals es
+  ElementsWhole reveals (element t es) =
+      WholeOn reveals (element_digest t) (OpensWhole reveals t) × ElementsWhole reveals es
 
   pub MembersWhole : (Text → Shown) → Members → Type 0
   MembersWhole reveals no_members = Unit {0}
-  MembersWhole reveals (member name t ms) = WholeUnless (bytes_eq name sd_name) (OpensWhole reveals t) × MembersWhole reveals ms
+  MembersWhole reveals (member name t ms) =
+      WholeUnless (bytes_eq name sd_name) (OpensWhole reveals t) × MembersWhole reveals ms
 
 -- ---- what every step of opening asks
 
@@ -125,28 +131,33 @@ shown_weight w (shown i name t) = w i + weight w t
 -- how often the disclosure with number k is shown where these digests stand
 abbrev pub uses : List Given → ℕ → List Text → ℕ
 uses given k [] = 0
-uses given k (digest ∷ digests) = shown_weight (only k) (settled given digest) + uses given k digests
+uses given k (digest ∷ digests) =
+    shown_weight (only k) (settled given digest) + uses given k digests
 
 -- the numbers of all values, that each value opens whole, and what it shows
 pub record IsOpenable (given : List Given) (numbers ends : List ℕ) : Type 0 where
   pub few : length given < 2 ^ 32
   pub told : TellEach tree_digests given numbers ends
   pub whole : (j : ℕ) (x : Given) → StandsAt given j x → OpensWhole (settled given) x.value
-  pub shows : (j k : ℕ) (x : Given) → StandsAt given j x → weight (only k) (open_tree (settled given) x.value) ≡ uses given k (tree_digests x.value)
+  pub shows : (j k : ℕ) (x : Given) → StandsAt given j x
+      → weight (only k) (open_tree (settled given) x.value) ≡ uses given k (tree_digests x.value)
 
--- What is opened is taken out of its place: `given` are all disclosures as they came in, and `left` is the list as it
--- is now. It still has those that the digests show, each of them once.
-pub record OpensFrom (given left : List Given) (numbers ends : List ℕ) (at : ℕ) (digests : List Text) (Whole : Type 0) : Type 0 where
+-- What is opened is taken out of its place: `given` are all disclosures as they came in, and `left`
+-- is the list as it is now. It still has those that the digests show, each of them once.
+pub record OpensFrom (given left : List Given) (numbers ends : List ℕ) (at : ℕ)
+    (digests : List Text) (Whole : Type 0) : Type 0 where
   pub ready : IsOpenable given numbers ends
   pub told : TellFirst given (drop at numbers) digests
   pub whole : Whole
   pub once : (k : ℕ) → uses given k digests ≤ 1
-  pub there : (k : ℕ) (x : Given) → StandsAt given k x → 0 < uses given k digests → StandsAt left k x
+  pub there : (k : ℕ) (x : Given) → StandsAt given k x → 0 < uses given k digests
+      → StandsAt left k x
   pub as_many : length left ≡ length given
 
 -- so over the numbers of a graph
 abbrev pub OpensIn : Graph → List Given → List Given → ℕ → List Text → Type 0 → Type 0
-OpensIn graph given left at digests Whole = OpensFrom given left graph.numbers.items graph.ends.items at digests Whole
+OpensIn graph given left at digests Whole =
+    OpensFrom given left graph.numbers.items graph.ends.items at digests Whole
 
 -- those that the digests do not show stay as they are
 pub record TakesOnly (given old new : List Given) (digests : List Text) : Type 0 where

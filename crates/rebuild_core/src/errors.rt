@@ -10,7 +10,8 @@ pub enum ProcessError {
     Memory,
     /// The digest of this disclosure equals that of an earlier one.
     RepeatedDisclosure(usize),
-    /// A reserved name is misused in this tree: 0 is the payload, and i + 1 the value of disclosure i.
+    /// A reserved name is misused in this tree: 0 is the payload, and i + 1 the
+    /// value of disclosure i.
     ReservedMisused(usize),
     /// The digest at this place of the met list equals an earlier one.
     RepeatedDigest(usize),

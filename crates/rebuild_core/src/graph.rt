@@ -40,7 +40,8 @@ impl Graph {
     fn row(&self, tree: usize) -> &[usize]
         requires ascends { Ascends 0 self.now.ends.items (length self.now.numbers.items) }
         requires tree { tree < length self.now.ends.items }
-        ensures { result.now ≡ slice_index_or (pieces_at 0 self.now.ends.items self.now.numbers.items) tree [] }
+        ensures { result.now
+            ≡ slice_index_or (pieces_at 0 self.now.ends.items self.now.numbers.items) tree [] }
     {
         let start = self.start(tree);
         let end = self.end(tree);
@@ -64,8 +65,10 @@ fn is_set(flags: &[bool], k: usize) -> bool
 
 // Marks a number, and puts it last in the order, unless it is marked or too large.
 fn mark(flags: &mut Vec<bool>, order: &mut Vec<usize>, k: usize) -> Result<(), NoMemory>
-    ensures flags { OnOk result (flags.new.items ≡ (mark_one k (flags.old.items, order.old.items)).0) }
-    ensures order { OnOk result (order.new.items ≡ (mark_one k (flags.old.items, order.old.items)).1) }
+    ensures flags { OnOk result
+        (flags.new.items ≡ (mark_one k (flags.old.items, order.old.items)).0) }
+    ensures order { OnOk result
+        (order.new.items ≡ (mark_one k (flags.old.items, order.old.items)).1) }
 {
     if !is_set(flags.as_slice(), k) {
         flags[k] = true;
@@ -76,8 +79,10 @@ fn mark(flags: &mut Vec<bool>, order: &mut Vec<usize>, k: usize) -> Result<(), N
 
 // Marks each number of a row in turn.
 fn mark_row(flags: &mut Vec<bool>, order: &mut Vec<usize>, row: &[usize]) -> Result<(), NoMemory>
-    ensures flags { OnOk result (flags.new.items ≡ (mark_all row.now (flags.old.items, order.old.items)).0) }
-    ensures order { OnOk result (order.new.items ≡ (mark_all row.now (flags.old.items, order.old.items)).1) }
+    ensures flags { OnOk result
+        (flags.new.items ≡ (mark_all row.now (flags.old.items, order.old.items)).0) }
+    ensures order { OnOk result
+        (order.new.items ≡ (mark_all row.now (flags.old.items, order.old.items)).1) }
 {
     for k in row {
         mark(flags, order, *k)?;
@@ -90,7 +95,11 @@ pub(crate) fn reach(alloc: Global, count: usize, graph: &Graph) -> Result<Vec<bo
     requires ascends { Ascends 0 graph.now.ends.items (length graph.now.numbers.items) }
     requires count { length graph.now.ends.items ≡ suc count }
     ensures length { IfOk result (λ flags. length flags.items ≡ count) }
-    ensures exact { IfOk result (λ flags. (k : ℕ) → k < count → slice_index_or flags.items k false ≡ is_met_in (roots_in graph.now.ends.items graph.now.numbers.items) (rows_in graph.now.ends.items graph.now.numbers.items) count k) }
+    ensures exact { IfOk result
+        (λ flags. (k : ℕ) → k < count
+        → slice_index_or flags.items k false
+        ≡ is_met_in (roots_in graph.now.ends.items graph.now.numbers.items)
+        (rows_in graph.now.ends.items graph.now.numbers.items) count k) }
 {
     let mut flags = cleared(alloc, count)?;
     let mut order = Vec::with_capacity(alloc, count)?;
@@ -112,7 +121,10 @@ pub(crate) fn met_numbers(
 ) -> Result<Vec<usize>, NoMemory>
     requires ascends { Ascends 0 graph.now.ends.items (length graph.now.numbers.items) }
     requires flags { length graph.now.ends.items ≡ suc (length flags.now) }
-    ensures { IfOk result (λ met. met.items ≡ roots_in graph.now.ends.items graph.now.numbers.items ++ flagged_rows flags.now (rows_in graph.now.ends.items graph.now.numbers.items)) }
+    ensures { IfOk result
+        (λ met. met.items
+        ≡ roots_in graph.now.ends.items graph.now.numbers.items
+        ++ flagged_rows flags.now (rows_in graph.now.ends.items graph.now.numbers.items)) }
 {
     let mut met = Vec::with_capacity(alloc, graph.numbers.len())?;
     met.extend_from_slice(graph.row(0))?;
@@ -131,7 +143,9 @@ pub(crate) fn first_recurring(
     numbers: &[usize],
 ) -> Result<Option<usize>, NoMemory>
     requires { (k : ℕ) → In k numbers.now → k < count }
-    ensures { IfOk result (λ r. MatchOption r (AtNone (Repeats numbers.now)) (λ place. IsLeast (Repeats numbers.now) place)) }
+    ensures { IfOk result
+        (λ r. MatchOption r (AtNone (Repeats numbers.now))
+        (λ place. IsLeast (Repeats numbers.now) place)) }
 {
     let mut seen = cleared(alloc, count)?;
     for (place, k) in numbers.iter().enumerate() {

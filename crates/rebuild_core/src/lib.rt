@@ -1,7 +1,7 @@
 //! A payload rebuilt from its disclosures, RFC 9901 section 7.1.
 //!
-//! [`process`] answers the processed payload, or why a token is refused; [`process_payload`] answers it without its
-//! marks. What may be relied on besides stands in [`laws`].
+//! [`process`] answers the processed payload, or why a token is refused; [`process_payload`]
+//! answers it without its marks. What may be relied on besides stands in [`laws`].
 #![tactic(auto)]
 
 mod errors;

@@ -85,7 +85,9 @@ fn first_misfit(
     given: &GivenList,
 ) -> Option<usize>
     requires { length numbers.now ≡ length rows.now }
-    ensures { MatchOption result (AtNone (StandsAtRow (IsMisfit misfit) (map seen rows.now) numbers.now given.now)) (λ i. IsLeast (StandsAtRow (IsMisfit misfit) (map seen rows.now) numbers.now given.now) i) }
+    ensures { MatchOption result
+        (AtNone (StandsAtRow (IsMisfit misfit) (map seen rows.now) numbers.now given.now))
+        (λ i. IsLeast (StandsAtRow (IsMisfit misfit) (map seen rows.now) numbers.now given.now) i) }
 {
     let mut least = given.len();
     for (place, row) in rows.iter().enumerate() {
@@ -142,7 +144,11 @@ fn note<'a>(
     name: &'a TextBox,
 ) -> Result<bool, NoMemory>
     ensures new { IfOk result (λ new. new ≡ not (is_name_disclosed disclosed.old object name.now)) }
-    ensures noted { OnOk result ((o : ℕ) (n : Text) → is_name_disclosed disclosed.new o n ≡ (if eqb object o && bytes_eq name.now n then true else is_name_disclosed disclosed.old o n)) }
+    ensures noted { OnOk result
+        ((o : ℕ) (n : Text)
+        → is_name_disclosed disclosed.new o n
+        ≡ (if eqb object o && bytes_eq name.now n then true
+        else is_name_disclosed disclosed.old o n)) }
 {
     let name = name.as_str();
     Ok(disclosed.insert(Disclosed { object, name })?)
@@ -157,7 +163,9 @@ fn first_clash(
     seed: u64,
 ) -> Result<Option<usize>, NoMemory>
     requires { length numbers.now ≡ length rows.now }
-    ensures { IfOk result (λ r. MatchOption r (AtNone (Clashes (map seen rows.now) numbers.now given.now)) (λ place. IsLeast (Clashes (map seen rows.now) numbers.now given.now) place)) }
+    ensures { IfOk result
+        (λ r. MatchOption r (AtNone (Clashes (map seen rows.now) numbers.now given.now))
+        (λ place. IsLeast (Clashes (map seen rows.now) numbers.now given.now) place)) }
 {
     let mut disclosed = HashSet::with_capacity_and_hasher(alloc, given.len(), Seeded::new(seed))?;
     for (place, row) in rows.iter().enumerate() {
@@ -170,7 +178,8 @@ fn first_clash(
     Ok(None)
 }
 
-// Whether each disclosure fits its place in this payload or in a value, where each is referenced once.
+// Whether each disclosure fits its place in this payload or in a value, where
+// each is referenced once.
 pub(crate) fn check_names(
     alloc: Global,
     payload: &Tree,
@@ -183,7 +192,8 @@ pub(crate) fn check_names(
     requires rows { map seen rows.now ≡ all_rows (tree_of payload.now) given.now }
     requires referenced { IsReferencedOnce (without_alg (tree_of payload.now)) given.now }
     requires numbered { IsNumbered (without_alg (tree_of payload.now)) given.now numbers.now }
-    ensures { MatchResult result (λ _. IsWellNamed (without_alg (tree_of payload.now)) given.now) (λ e. IsProcessRefused (without_alg (tree_of payload.now)) given.now e) }
+    ensures { MatchResult result (λ _. IsWellNamed (without_alg (tree_of payload.now)) given.now)
+        (λ e. IsProcessRefused (without_alg (tree_of payload.now)) given.now e) }
 {
     is_readable(payload, given);
     if let Some(i) = first_misfit(Misfit::Shape, rows, numbers, given) {

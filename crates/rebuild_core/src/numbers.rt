@@ -26,9 +26,13 @@ pub(crate) fn number_given<'a>(
     steps: &mut Steps,
 ) -> Result<Option<usize>, NoMemory>
     requires { index.old ≡ [] }
-    ensures repeated { IfOk result (λ r. MatchOption r (AtNone (RepeatedDisclosure given.now)) (λ i. IsLeast (RepeatedDisclosure given.now) i)) }
-    ensures all { IfOk result (λ r. MatchOption r (index.new ≡ given_digests given.now) (λ i. Unit {0})) }
-    ensures counted { IfOk result (λ r. MatchOption r (steps.new ≡ counted steps.old (length given.now)) (λ i. Unit {0})) }
+    ensures repeated { IfOk result
+        (λ r. MatchOption r (AtNone (RepeatedDisclosure given.now))
+        (λ i. IsLeast (RepeatedDisclosure given.now) i)) }
+    ensures all { IfOk result
+        (λ r. MatchOption r (index.new ≡ given_digests given.now) (λ i. Unit {0})) }
+    ensures counted { IfOk result
+        (λ r. MatchOption r (steps.new ≡ counted steps.old (length given.now)) (λ i. Unit {0})) }
     ensures risen { RoseWithin (length given.now) steps.old steps.new }
 {
     steps_fit(steps);

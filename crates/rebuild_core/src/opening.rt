@@ -1,5 +1,5 @@
-// A payload opened without search: the digests of its sites are read as numbers, in their order. What is shown is
-// moved.
+// A payload opened without search: the digests of its sites are read as
+// numbers, in their order. What is shown is moved.
 ghost use Rattle.std.specs.Prelude.{◌≡◌, ◌+◌, ◌^◌, ◌<◌, ◌≤◌, List, [], ◌∷◌, length, OnOk, IfOk, MatchResult};
 ghost use Rattle.claim_tree.specs.Tree.{Text, object, depth, elements_depth, members_depth};
 ghost use Rattle.claim_tree.specs.View.{tree_of};
@@ -40,9 +40,15 @@ fn open_next(
     graph: &Graph,
     at: &mut usize,
 ) -> Result<Option<Revealed>, ProcessError>
-    requires ready { (g : List Given) × (digest : Text) × OpensIn graph.now g given.old at.old (digest ∷ []) (Unit {0}) }
+    requires ready { (g : List Given) × (digest : Text)
+        × OpensIn graph.now g given.old at.old (digest ∷ []) (Unit {0}) }
     ensures moved { OnOk result (at.new ≡ at.old + 1) }
-    ensures opened { (g : List Given) (digest : Text) → OpensIn graph.now g given.old at.old (digest ∷ []) (Unit {0}) → MatchResult result (λ r. (shown_of r ≡ settled g digest) × (shown_depth (shown_of r) ≤ limit) × TakesOnly g given.old given.new (digest ∷ [])) (λ e. IfTooDeep e (limit < shown_depth (settled g digest))) }
+    ensures opened { (g : List Given) (digest : Text)
+        → OpensIn graph.now g given.old at.old (digest ∷ []) (Unit {0})
+        → MatchResult result
+        (λ r. (shown_of r ≡ settled g digest) × (shown_depth (shown_of r) ≤ limit)
+        × TakesOnly g given.old given.new (digest ∷ []))
+        (λ e. IfTooDeep e (limit < shown_depth (settled g digest))) }
 {
     let number = graph.numbers[*at];
     *at += 1;
@@ -67,9 +73,19 @@ fn open_list(
     at: &mut usize,
     list: TreeList,
 ) -> Result<MarkedList, ProcessError>
-    requires ready { (g : List Given) × OpensIn graph.now g given.old at.old (elements_digests list) (ElementsWhole (settled g) list) }
+    requires ready { (g : List Given)
+        × OpensIn graph.now g given.old at.old (elements_digests list)
+        (ElementsWhole (settled g) list) }
     ensures moved { OnOk result (at.new ≡ at.old + length (elements_digests list)) }
-    ensures opened { (g : List Given) → OpensIn graph.now g given.old at.old (elements_digests list) (ElementsWhole (settled g) list) → MatchResult result (λ out. (out ≡ open_elements (settled g) list) × (elements_depth (strip_elements out) ≤ limit) × TakesOnly g given.old given.new (elements_digests list)) (λ e. IfTooDeep e (limit < elements_depth (strip_elements (open_elements (settled g) list)))) }
+    ensures opened { (g : List Given)
+        → OpensIn graph.now g given.old at.old (elements_digests list)
+        (ElementsWhole (settled g) list)
+        → MatchResult result
+        (λ out. (out ≡ open_elements (settled g) list)
+        × (elements_depth (strip_elements out) ≤ limit)
+        × TakesOnly g given.old given.new (elements_digests list))
+        (λ e. IfTooDeep e
+        (limit < elements_depth (strip_elements (open_elements (settled g) list)))) }
 {
     let mut out = MarkedList::with_capacity(alloc, list.len())?;
     for tree in list.into_trees() {
@@ -102,9 +118,16 @@ fn open_own(
     at: &mut usize,
     map: &TreeMap,
 ) -> Result<HiddenMembers, ProcessError>
-    requires ready { (g : List Given) × OpensIn graph.now g given.old at.old (sd_texts map.now) (Unit {0}) }
+    requires ready { (g : List Given)
+        × OpensIn graph.now g given.old at.old (sd_texts map.now) (Unit {0}) }
     ensures moved { OnOk result (at.new ≡ at.old + length (sd_texts map.now)) }
-    ensures opened { (g : List Given) → OpensIn graph.now g given.old at.old (sd_texts map.now) (Unit {0}) → MatchResult result (λ out. (marked_members_of out.items ≡ shown_members (settled g) (sd_texts map.now)) × (shown_depths (settled g) (sd_texts map.now) ≤ limit) × TakesOnly g given.old given.new (sd_texts map.now)) (λ e. IfTooDeep e (limit < shown_depths (settled g) (sd_texts map.now))) }
+    ensures opened { (g : List Given)
+        → OpensIn graph.now g given.old at.old (sd_texts map.now) (Unit {0})
+        → MatchResult result
+        (λ out. (marked_members_of out.items ≡ shown_members (settled g) (sd_texts map.now))
+        × (shown_depths (settled g) (sd_texts map.now) ≤ limit)
+        × TakesOnly g given.old given.new (sd_texts map.now))
+        (λ e. IfTooDeep e (limit < shown_depths (settled g) (sd_texts map.now))) }
 {
     let count = own_count(map);
     let mut out = room_for_members(alloc, count)?;
@@ -126,9 +149,20 @@ fn open_plain(
     at: &mut usize,
     map: TreeMap,
 ) -> Result<MarkedMap, ProcessError>
-    requires ready { (g : List Given) × OpensIn graph.now g given.old at.old (members_digests (topped top map)) (MembersWhole (settled g) (topped top map)) }
+    requires ready { (g : List Given)
+        × OpensIn graph.now g given.old at.old (members_digests (topped top map))
+        (MembersWhole (settled g) (topped top map)) }
     ensures moved { OnOk result (at.new ≡ at.old + length (members_digests (topped top map))) }
-    ensures opened { (g : List Given) → OpensIn graph.now g given.old at.old (members_digests (topped top map)) (MembersWhole (settled g) (topped top map)) → MatchResult result (λ out. (out ≡ open_members (settled g) (topped top map)) × (members_depth (strip_members out) ≤ limit) × TakesOnly g given.old given.new (members_digests (topped top map))) (λ e. IfTooDeep e (limit < members_depth (strip_members (open_members (settled g) (topped top map))))) }
+    ensures opened { (g : List Given)
+        → OpensIn graph.now g given.old at.old (members_digests (topped top map))
+        (MembersWhole (settled g) (topped top map))
+        → MatchResult result
+        (λ out. (out ≡ open_members (settled g) (topped top map))
+        × (members_depth (strip_members out) ≤ limit)
+        × TakesOnly g given.old given.new (members_digests (topped top map)))
+        (λ e. IfTooDeep e
+        (limit
+        < members_depth (strip_members (open_members (settled g) (topped top map))))) }
 {
     let mut out = MarkedMap::with_capacity(alloc, map.len())?;
     for (name, tree) in map.into_members() {
@@ -151,9 +185,20 @@ fn open_parts(
     at: &mut usize,
     map: TreeMap,
 ) -> Result<OpenedMembers, ProcessError>
-    requires ready { (g : List Given) × OpensIn graph.now g given.old at.old (tree_digests (object (topped top map))) (OpensWhole (settled g) (object (topped top map))) }
-    ensures moved { OnOk result (at.new ≡ at.old + length (tree_digests (object (topped top map)))) }
-    ensures opened { (g : List Given) → OpensIn graph.now g given.old at.old (tree_digests (object (topped top map))) (OpensWhole (settled g) (object (topped top map))) → MatchResult result (λ o. (whole_object o ≡ open_tree (settled g) (object (topped top map))) × (depth (strip (whole_object o)) ≤ limit) × TakesOnly g given.old given.new (tree_digests (object (topped top map)))) (λ e. IfTooDeep e (limit < depth (strip (open_tree (settled g) (object (topped top map)))))) }
+    requires ready { (g : List Given)
+        × OpensIn graph.now g given.old at.old (tree_digests (object (topped top map)))
+        (OpensWhole (settled g) (object (topped top map))) }
+    ensures moved { OnOk result
+        (at.new ≡ at.old + length (tree_digests (object (topped top map)))) }
+    ensures opened { (g : List Given)
+        → OpensIn graph.now g given.old at.old (tree_digests (object (topped top map)))
+        (OpensWhole (settled g) (object (topped top map)))
+        → MatchResult result
+        (λ o. (whole_object o ≡ open_tree (settled g) (object (topped top map)))
+        × (depth (strip (whole_object o)) ≤ limit)
+        × TakesOnly g given.old given.new (tree_digests (object (topped top map))))
+        (λ e. IfTooDeep e
+        (limit < depth (strip (open_tree (settled g) (object (topped top map)))))) }
 {
     if limit == 0 {
         return Err(ProcessError::TooDeep);
@@ -173,9 +218,18 @@ fn open(
     at: &mut usize,
     tree: Tree,
 ) -> Result<Marked, ProcessError>
-    requires ready { (g : List Given) × OpensIn graph.now g given.old at.old (tree_digests (tree_of tree)) (OpensWhole (settled g) (tree_of tree)) }
+    requires ready { (g : List Given)
+        × OpensIn graph.now g given.old at.old (tree_digests (tree_of tree))
+        (OpensWhole (settled g) (tree_of tree)) }
     ensures moved { OnOk result (at.new ≡ at.old + length (tree_digests (tree_of tree))) }
-    ensures opened { (g : List Given) → OpensIn graph.now g given.old at.old (tree_digests (tree_of tree)) (OpensWhole (settled g) (tree_of tree)) → MatchResult result (λ m. (marked_of m ≡ open_tree (settled g) (tree_of tree)) × (depth (strip (marked_of m)) ≤ limit) × TakesOnly g given.old given.new (tree_digests (tree_of tree))) (λ e. IfTooDeep e (limit < depth (strip (open_tree (settled g) (tree_of tree))))) }
+    ensures opened { (g : List Given)
+        → OpensIn graph.now g given.old at.old (tree_digests (tree_of tree))
+        (OpensWhole (settled g) (tree_of tree))
+        → MatchResult result
+        (λ m. (marked_of m ≡ open_tree (settled g) (tree_of tree))
+        × (depth (strip (marked_of m)) ≤ limit)
+        × TakesOnly g given.old given.new (tree_digests (tree_of tree)))
+        (λ e. IfTooDeep e (limit < depth (strip (open_tree (settled g) (tree_of tree))))) }
 {
     match tree {
         Tree::Null => Ok(Marked::Null),
@@ -196,7 +250,8 @@ fn open(
     }
 }
 
-// The members of the payload, without its own `_sd_alg`. The numbers begin with those of its digests.
+// The members of the payload, without its own `_sd_alg`. The numbers begin with
+// those of its digests.
 pub(crate) fn open_top(
     alloc: Global,
     payload: Tree,
@@ -207,8 +262,12 @@ pub(crate) fn open_top(
     requires few { length given.old < 2 ^ 32 }
     requires referenced { IsReferencedOnce (without_alg (tree_of payload)) given.old }
     requires named { IsWellNamed (without_alg (tree_of payload)) given.old }
-    requires told { NumbersTell (without_alg (tree_of payload)) given.old graph.now.numbers.items graph.now.ends.items }
-    ensures { MatchResult result (λ o. IsSound (without_alg (tree_of payload)) given.old × (whole_object o ≡ processed (without_alg (tree_of payload)) given.old)) (IsProcessRefused (without_alg (tree_of payload)) given.old) }
+    requires told { NumbersTell (without_alg (tree_of payload)) given.old graph.now.numbers.items
+        graph.now.ends.items }
+    ensures { MatchResult result
+        (λ o. IsSound (without_alg (tree_of payload)) given.old
+        × (whole_object o ≡ processed (without_alg (tree_of payload)) given.old))
+        (IsProcessRefused (without_alg (tree_of payload)) given.old) }
 {
     let mut at = 0;
     match payload {

@@ -43,9 +43,14 @@ fn open_judged(
     requires payload_depth { depth (tree_of payload) ≤ json_depth_max }
     requires values_depth { ValuesShallow given }
     requires few { length given < 2 ^ 32 - 1 }
-    ensures opened { MatchResult result (λ o. IsSound (without_alg (tree_of payload)) given × (whole_object o ≡ processed (without_alg (tree_of payload)) given)) (IsProcessRefused (without_alg (tree_of payload)) given) }
-    ensures counted { IfOk result (λ _. steps.new ≡ counted steps.old (look_ups (without_alg (tree_of payload)) given)) }
-    ensures risen { RoseWithin (look_ups (without_alg (tree_of payload)) given) steps.old steps.new }
+    ensures opened { MatchResult result
+        (λ o. IsSound (without_alg (tree_of payload)) given
+        × (whole_object o ≡ processed (without_alg (tree_of payload)) given))
+        (IsProcessRefused (without_alg (tree_of payload)) given) }
+    ensures counted { IfOk result
+        (λ _. steps.new ≡ counted steps.old (look_ups (without_alg (tree_of payload)) given)) }
+    ensures risen { RoseWithin (look_ups (without_alg (tree_of payload)) given) steps.old
+        steps.new }
 {
     let References { rows, graph } = match check_references(alloc, &payload, &given, seed, steps) {
         Ok(found) => found,
@@ -76,15 +81,16 @@ fn copy_given(alloc: Global, given: &GivenList) -> Result<GivenList, NoMemory>
     Ok(copies)
 }
 
-/// The payload with its disclosures in their places, RFC 9901 section 7.1, or the lowest of the conditions 14 to 21
-/// that fails, at its least place.
+/// The payload with its disclosures in their places, RFC 9901 section 7.1, or the lowest of the
+/// conditions 14 to 21 that fails, at its least place.
 ///
-/// Each member and element that a disclosure shows has the number of the disclosure as its mark. Digests are taken as
-/// they are handed in: no digest is computed here, and they may lead in a circle. Every condition speaks of the payload
-/// without its own member `_sd_alg`.
+/// Each member and element that a disclosure shows has the number of the disclosure as its mark.
+/// Digests are taken as they are handed in: no digest is computed here, and they may lead in a
+/// circle. Every condition speaks of the payload without its own member `_sd_alg`.
 ///
-/// Each given digest and each digest of a site is looked up once, and what follows works on numbers. So time and memory
-/// grow with n log n, and the answer is built no deeper than 100, whatever the input. `steps` counts the look-ups.
+/// Each given digest and each digest of a site is looked up once, and what follows works on
+/// numbers. So time and memory grow with n log n, and the answer is built no deeper than 100,
+/// whatever the input. `steps` counts the look-ups.
 ///
 /// Payload and disclosures are copied. [`process_seeded`] takes them, and moves what they say.
 #[tactic(auto, using(crate::proofs::Size::processed_within))]
@@ -99,23 +105,29 @@ pub fn process(
     requires values_depth { ValuesShallow given.now }
     requires few { length given.now < 2 ^ 32 - 1 }
     ensures sound { IfOk result (λ _. IsSound (without_alg (tree_of payload.now)) given.now) }
-    ensures processed { IfOk result (λ marked. marked_of marked ≡ processed (without_alg (tree_of payload.now)) given.now) }
+    ensures processed { IfOk result
+        (λ marked. marked_of marked ≡ processed (without_alg (tree_of payload.now)) given.now) }
     ensures bounded { IfOk result
         (λ marked. IsWithinNodes (tree_of payload.now) given.now (strip (marked_of marked))) }
-    ensures refused { IfErr result (IsProcessRefused (without_alg (tree_of payload.now)) given.now) }
+    ensures refused { IfErr result
+        (IsProcessRefused (without_alg (tree_of payload.now)) given.now) }
 
     // the look-ups
-    ensures counted { IfOk result (λ _. steps.new ≡ counted steps.old (look_ups (without_alg (tree_of payload.now)) given.now)) }
-    ensures risen { RoseWithin (look_ups (without_alg (tree_of payload.now)) given.now) steps.old steps.new }
+    ensures counted { IfOk result
+        (λ _. steps.new
+        ≡ counted steps.old (look_ups (without_alg (tree_of payload.now)) given.now)) }
+    ensures risen { RoseWithin (look_ups (without_alg (tree_of payload.now)) given.now) steps.old
+        steps.new }
 {
     let payload = copy(alloc, payload)?;
     let given = copy_given(alloc, given)?;
     process_seeded(alloc, payload, given, 0, steps)
 }
 
-/// The same, of a payload and disclosures that are given away, where the digests are hashed with a seed. No answer
-/// depends on the seed, but who knows it can choose digests that are slow to look up together: who reads what others
-/// wrote gives one that they couldn't know when they chose the digests.
+/// The same, of a payload and disclosures that are given away, where the
+/// digests are hashed with a seed. No answer depends on the seed, but who knows
+/// it can choose digests that are slow to look up together: who reads what
+/// others wrote gives one that they couldn't know when they chose the digests.
 #[tactic(auto, using(crate::proofs::Size::processed_within))]
 pub fn process_seeded(
     alloc: Global,
@@ -129,14 +141,17 @@ pub fn process_seeded(
     requires values_depth { ValuesShallow given }
     requires few { length given < 2 ^ 32 - 1 }
     ensures sound { IfOk result (λ _. IsSound (without_alg (tree_of payload)) given) }
-    ensures processed { IfOk result (λ marked. marked_of marked ≡ processed (without_alg (tree_of payload)) given) }
+    ensures processed { IfOk result
+        (λ marked. marked_of marked ≡ processed (without_alg (tree_of payload)) given) }
     ensures bounded { IfOk result
         (λ marked. IsWithinNodes (tree_of payload) given (strip (marked_of marked))) }
     ensures refused { IfErr result (IsProcessRefused (without_alg (tree_of payload)) given) }
 
     // the look-ups
-    ensures counted { IfOk result (λ _. steps.new ≡ counted steps.old (look_ups (without_alg (tree_of payload)) given)) }
-    ensures risen { RoseWithin (look_ups (without_alg (tree_of payload)) given) steps.old steps.new }
+    ensures counted { IfOk result
+        (λ _. steps.new ≡ counted steps.old (look_ups (without_alg (tree_of payload)) given)) }
+    ensures risen { RoseWithin (look_ups (without_alg (tree_of payload)) given) steps.old
+        steps.new }
 {
     let members = match open_judged(alloc, payload, given, seed, steps) {
         Ok(members) => members,
@@ -152,17 +167,21 @@ fn open_nothing(payload: Tree, given: &GivenList, steps: &mut Steps) -> Result<T
     requires unhidden { is_unhidden_of (tree_of payload) ≡ true }
     requires none { given.now ≡ [] }
     ensures sound { IfOk result (λ _. IsSound (without_alg (tree_of payload)) given.now) }
-    ensures processed { IfOk result (λ tree. tree_of tree ≡ strip (processed (without_alg (tree_of payload)) given.now)) }
+    ensures processed { IfOk result
+        (λ tree. tree_of tree ≡ strip (processed (without_alg (tree_of payload)) given.now)) }
     ensures refused { IfErr result (IsProcessRefused (without_alg (tree_of payload)) given.now) }
-    ensures counted { steps.new ≡ counted steps.old (look_ups (without_alg (tree_of payload)) given.now) }
-    ensures risen { RoseWithin (look_ups (without_alg (tree_of payload)) given.now) steps.old steps.new }
+    ensures counted { steps.new
+        ≡ counted steps.old (look_ups (without_alg (tree_of payload)) given.now) }
+    ensures risen { RoseWithin (look_ups (without_alg (tree_of payload)) given.now) steps.old
+        steps.new }
 {
     steps_fit(steps);
     move_out(payload)
 }
 
-/// What [`process_seeded`] answers, for who needs no marks: the processed payload alone. A payload in which nothing is
-/// hidden is handed back without its own `_sd_alg`. Of any other, and of the disclosures, what is not shown is dropped
+/// What [`process_seeded`] answers, for who needs no marks: the processed payload
+/// alone. A payload in which nothing is hidden is handed back without its own
+/// `_sd_alg`. Of any other, and of the disclosures, what is not shown is dropped
 /// before the opened members are put together. No part of either is copied.
 #[tactic(auto, using(crate::proofs::Size::shown_within))]
 pub fn process_payload(
@@ -177,13 +196,16 @@ pub fn process_payload(
     requires values_depth { ValuesShallow given }
     requires few { length given < 2 ^ 32 - 1 }
     ensures sound { IfOk result (λ _. IsSound (without_alg (tree_of payload)) given) }
-    ensures processed { IfOk result (λ tree. tree_of tree ≡ strip (processed (without_alg (tree_of payload)) given)) }
+    ensures processed { IfOk result
+        (λ tree. tree_of tree ≡ strip (processed (without_alg (tree_of payload)) given)) }
     ensures bounded { IfOk result (λ tree. IsWithinNodes (tree_of payload) given (tree_of tree)) }
     ensures refused { IfErr result (IsProcessRefused (without_alg (tree_of payload)) given) }
 
     // the look-ups
-    ensures counted { IfOk result (λ _. steps.new ≡ counted steps.old (look_ups (without_alg (tree_of payload)) given)) }
-    ensures risen { RoseWithin (look_ups (without_alg (tree_of payload)) given) steps.old steps.new }
+    ensures counted { IfOk result
+        (λ _. steps.new ≡ counted steps.old (look_ups (without_alg (tree_of payload)) given)) }
+    ensures risen { RoseWithin (look_ups (without_alg (tree_of payload)) given) steps.old
+        steps.new }
 {
     if given.len() == 0 && is_unhidden(&payload) {
         return open_nothing(payload, &given, steps);

@@ -1,4 +1,5 @@
-// What the invariants of trees tell of all that is handed in. It does nothing but tell it, to the proofs of what calls it.
+// What the invariants of trees tell of all that is handed in. It does nothing
+// but tell it, to the proofs of what calls it.
 ghost use Rattle.claim_tree.specs.View.{tree_of};
 ghost use Rattle.rebuild_core.specs.Readable.{IsReadable};
 

@@ -30,14 +30,16 @@ use std::alloc::Global;
 #[derive(Debug, Drop)]
 pub(crate) struct References<'a> {
     pub rows: Vec<Row<'a>>,
-    // The number of each row: that of the disclosure with the digest, or one that no disclosure has.
+    // The number of each row: that of the disclosure with the digest, or one
+    // that no disclosure has.
     pub graph: Graph,
 }
 
 // The first tree that misuses a reserved name: 0 is the payload, and i + 1 value i.
 fn first_misused(payload: &Tree, given: &GivenList) -> Option<usize>
     requires { IsPayload (tree_of payload.now) }
-    ensures { MatchOption result (AtNone (Misused (without_alg (tree_of payload.now)) given.now)) (λ i. IsLeast (Misused (without_alg (tree_of payload.now)) given.now) i) }
+    ensures { MatchOption result (AtNone (Misused (without_alg (tree_of payload.now)) given.now))
+        (λ i. IsLeast (Misused (without_alg (tree_of payload.now)) given.now) i) }
 {
     payload.invariant();
     if is_misused(payload) {
@@ -89,9 +91,13 @@ fn number_list<'a>(
 ) -> Result<Numbered<'a>, NoMemory>
     ensures rows { IfOk result (λ found. found.rows.items ≡ list.entry.rows.items) }
     ensures ends { IfOk result (λ found. found.graph.ends.items ≡ list.entry.ends.items) }
-    ensures numbers { IfOk result (λ found. found.graph.numbers.items ≡ numbers index.entry (row_texts list.entry.rows.items)) }
-    ensures index { IfOk result (λ found. found.index ≡ all_interned index.entry (row_texts list.entry.rows.items)) }
-    ensures counted { IfOk result (λ _. steps.new ≡ counted steps.old (length list.entry.rows.items)) }
+    ensures numbers { IfOk result
+        (λ found.
+        found.graph.numbers.items ≡ numbers index.entry (row_texts list.entry.rows.items)) }
+    ensures index { IfOk result
+        (λ found. found.index ≡ all_interned index.entry (row_texts list.entry.rows.items)) }
+    ensures counted { IfOk result
+        (λ _. steps.new ≡ counted steps.old (length list.entry.rows.items)) }
     ensures risen { RoseWithin (length list.entry.rows.items) steps.old steps.new }
 {
     let mut index = index;
@@ -104,7 +110,8 @@ fn number_list<'a>(
     })
 }
 
-// Judges that no disclosure is given twice and no reserved name is misused, and numbers the digests.
+// Judges that no disclosure is given twice and no reserved name is misused, and
+// numbers the digests.
 fn number_all<'a>(
     alloc: Global,
     payload: &'a Tree,
@@ -116,12 +123,20 @@ fn number_all<'a>(
     requires payload { depth (tree_of payload.now) ≤ json_depth_max }
     requires values { ValuesShallow given.now }
     ensures repeated { IfOk result (λ _. AtNone (RepeatedDisclosure given.now)) }
-    ensures misused { IfOk result (λ _. AtNone (Misused (without_alg (tree_of payload.now)) given.now)) }
-    ensures rows { IfOk result (λ found. map seen found.rows.items ≡ rows_of (tree_of payload.now) given.now) }
-    ensures flat { IfOk result (λ found. IsFlatList (tree_of payload.now) given.now found.index found.graph.numbers.items found.graph.ends.items) }
-    ensures refused { IfErr result (IsProcessRefused (without_alg (tree_of payload.now)) given.now) }
-    ensures counted { IfOk result (λ _. steps.new ≡ counted steps.old (look_ups (without_alg (tree_of payload.now)) given.now)) }
-    ensures risen { RoseWithin (look_ups (without_alg (tree_of payload.now)) given.now) steps.old steps.new }
+    ensures misused { IfOk result
+        (λ _. AtNone (Misused (without_alg (tree_of payload.now)) given.now)) }
+    ensures rows { IfOk result
+        (λ found. map seen found.rows.items ≡ rows_of (tree_of payload.now) given.now) }
+    ensures flat { IfOk result
+        (λ found. IsFlatList (tree_of payload.now) given.now found.index found.graph.numbers.items
+        found.graph.ends.items) }
+    ensures refused { IfErr result
+        (IsProcessRefused (without_alg (tree_of payload.now)) given.now) }
+    ensures counted { IfOk result
+        (λ _. steps.new
+        ≡ counted steps.old (look_ups (without_alg (tree_of payload.now)) given.now)) }
+    ensures risen { RoseWithin (look_ups (without_alg (tree_of payload.now)) given.now) steps.old
+        steps.new }
 {
     payload.invariant();
     let index = match index_given(alloc, given, seed, steps) {
@@ -151,7 +166,9 @@ fn first_met_twice(
     requires ascends { Ascends 0 graph.now.ends.items (length graph.now.numbers.items) }
     requires flags { length graph.now.ends.items ≡ suc (length flags.now) }
     requires below { (k : ℕ) → In k (met_in graph.now flags.now) → k < count }
-    ensures { IfOk result (λ r. MatchOption r (AtNone (Repeats (met_in graph.now flags.now))) (λ place. IsLeast (Repeats (met_in graph.now flags.now)) place)) }
+    ensures { IfOk result
+        (λ r. MatchOption r (AtNone (Repeats (met_in graph.now flags.now)))
+        (λ place. IsLeast (Repeats (met_in graph.now flags.now)) place)) }
 {
     let met = met_numbers(alloc, graph, flags)?;
     first_recurring(alloc, count, met.as_slice())
@@ -165,11 +182,14 @@ fn check_met(
     numbered: &Numbered<'_>,
 ) -> Result<(), ProcessError>
     requires object { IsPayload (tree_of payload.now) }
-    requires flat { IsFlatList (tree_of payload.now) given.now numbered.now.index numbered.now.graph.numbers.items numbered.now.graph.ends.items }
+    requires flat { IsFlatList (tree_of payload.now) given.now numbered.now.index
+        numbered.now.graph.numbers.items numbered.now.graph.ends.items }
     requires repeated { AtNone (RepeatedDisclosure given.now) }
     requires misused { AtNone (Misused (without_alg (tree_of payload.now)) given.now) }
-    ensures referenced { OnOk result (IsReferencedOnce (without_alg (tree_of payload.now)) given.now) }
-    ensures refused { IfErr result (IsProcessRefused (without_alg (tree_of payload.now)) given.now) }
+    ensures referenced { OnOk result
+        (IsReferencedOnce (without_alg (tree_of payload.now)) given.now) }
+    ensures refused { IfErr result
+        (IsProcessRefused (without_alg (tree_of payload.now)) given.now) }
 {
     payload.invariant();
     let flags = match reach(alloc, given.len(), &numbered.graph) {
@@ -188,8 +208,8 @@ fn check_met(
     Ok(())
 }
 
-// Judges that no disclosure is given twice, no reserved name is misused, no digest of the met list repeats, and each
-// disclosure is reached.
+// Judges that no disclosure is given twice, no reserved name is misused, no digest of the met list
+// repeats, and each disclosure is reached.
 pub(crate) fn check_references<'a>(
     alloc: Global,
     payload: &'a Tree,
@@ -200,13 +220,23 @@ pub(crate) fn check_references<'a>(
     requires object { IsPayload (tree_of payload.now) }
     requires payload { depth (tree_of payload.now) ≤ json_depth_max }
     requires values { ValuesShallow given.now }
-    ensures referenced { IfOk result (λ _. IsReferencedOnce (without_alg (tree_of payload.now)) given.now) }
-    ensures rows { IfOk result (λ found. map seen found.rows.items ≡ rows_of (tree_of payload.now) given.now) }
-    ensures numbers { IfOk result (λ found. IsNumbered (without_alg (tree_of payload.now)) given.now found.graph.numbers.items) }
-    ensures told { IfOk result (λ found. NumbersTell (without_alg (tree_of payload.now)) given.now found.graph.numbers.items found.graph.ends.items) }
-    ensures refused { IfErr result (IsProcessRefused (without_alg (tree_of payload.now)) given.now) }
-    ensures counted { IfOk result (λ _. steps.new ≡ counted steps.old (look_ups (without_alg (tree_of payload.now)) given.now)) }
-    ensures risen { RoseWithin (look_ups (without_alg (tree_of payload.now)) given.now) steps.old steps.new }
+    ensures referenced { IfOk result
+        (λ _. IsReferencedOnce (without_alg (tree_of payload.now)) given.now) }
+    ensures rows { IfOk result
+        (λ found. map seen found.rows.items ≡ rows_of (tree_of payload.now) given.now) }
+    ensures numbers { IfOk result
+        (λ found.
+        IsNumbered (without_alg (tree_of payload.now)) given.now found.graph.numbers.items) }
+    ensures told { IfOk result
+        (λ found. NumbersTell (without_alg (tree_of payload.now)) given.now
+        found.graph.numbers.items found.graph.ends.items) }
+    ensures refused { IfErr result
+        (IsProcessRefused (without_alg (tree_of payload.now)) given.now) }
+    ensures counted { IfOk result
+        (λ _. steps.new
+        ≡ counted steps.old (look_ups (without_alg (tree_of payload.now)) given.now)) }
+    ensures risen { RoseWithin (look_ups (without_alg (tree_of payload.now)) given.now) steps.old
+        steps.new }
 {
     payload.invariant();
     let found = match number_all(alloc, payload, given, seed, steps) {

@@ -45,7 +45,9 @@ fn push_row<'a>(out: &mut Vec<Row<'a>>, row: Row<'a>) -> Result<(), NoMemory>
 #[cycle(rows)]
 fn list_rows<'a>(top: bool, tree: &'a Tree, out: &mut Vec<Row<'a>>) -> Result<(), NoMemory>
     requires { depth (tree_of tree.now) ≤ json_depth_max }
-    ensures { OnOk result (map seen out.new.items ≡ map seen out.old.items ++ tree_rows top (length out.old.items) (tree_of tree.now)) }
+    ensures { OnOk result
+        (map seen out.new.items
+        ≡ map seen out.old.items ++ tree_rows top (length out.old.items) (tree_of tree.now)) }
 {
     match tree {
         Tree::List(trees) => list_elements(trees, out),
@@ -61,7 +63,9 @@ fn list_rows<'a>(top: bool, tree: &'a Tree, out: &mut Vec<Row<'a>>) -> Result<()
 #[tactic(auto, using(claim_tree::proofs::Walks::into_element))]
 fn list_elements<'a>(trees: &'a TreeList, out: &mut Vec<Row<'a>>) -> Result<(), NoMemory>
     requires { elements_depth trees.now ≤ 126 }
-    ensures { OnOk result (map seen out.new.items ≡ map seen out.old.items ++ element_rows (length out.old.items) trees.now) }
+    ensures { OnOk result
+        (map seen out.new.items
+        ≡ map seen out.old.items ++ element_rows (length out.old.items) trees.now) }
 {
     for tree in trees.trees() {
         list_element(tree, out)?;
@@ -72,7 +76,11 @@ fn list_elements<'a>(trees: &'a TreeList, out: &mut Vec<Row<'a>>) -> Result<(), 
 #[cycle(rows)]
 fn list_element<'a>(tree: &'a Tree, out: &mut Vec<Row<'a>>) -> Result<(), NoMemory>
     requires { depth (tree_of tree.now) ≤ json_depth_max }
-    ensures { OnOk result (map seen out.new.items ≡ map seen out.old.items ++ rows_on (length out.old.items) (digest_in (tree_of tree.now)) (tree_rows false (length out.old.items) (tree_of tree.now))) }
+    ensures { OnOk result
+        (map seen out.new.items
+        ≡ map seen out.old.items
+        ++ rows_on (length out.old.items) (digest_in (tree_of tree.now))
+        (tree_rows false (length out.old.items) (tree_of tree.now))) }
 {
     match element_digest(tree) {
         Some(digest) => {
@@ -96,7 +104,9 @@ fn list_element<'a>(tree: &'a Tree, out: &mut Vec<Row<'a>>) -> Result<(), NoMemo
 #[tactic(auto, using(claim_tree::proofs::Walks::into_member))]
 fn list_members<'a>(trees: &'a TreeMap, out: &mut Vec<Row<'a>>) -> Result<(), NoMemory>
     requires { members_depth trees.now ≤ 126 }
-    ensures { OnOk result (map seen out.new.items ≡ map seen out.old.items ++ member_rows (length out.old.items) trees.now) }
+    ensures { OnOk result
+        (map seen out.new.items
+        ≡ map seen out.old.items ++ member_rows (length out.old.items) trees.now) }
 {
     for (name, tree) in trees.members() {
         if !is_sd(name) {
@@ -108,7 +118,11 @@ fn list_members<'a>(trees: &'a TreeMap, out: &mut Vec<Row<'a>>) -> Result<(), No
 
 // The digests of an object's own hidden members.
 fn list_own<'a>(top: bool, members: &'a TreeMap, out: &mut Vec<Row<'a>>) -> Result<(), NoMemory>
-    ensures { OnOk result (map seen out.new.items ≡ map seen out.old.items ++ map (own_row top (length out.old.items) (beside_names top members.now)) (sd_texts members.now)) }
+    ensures { OnOk result
+        (map seen out.new.items
+        ≡ map seen out.old.items
+        ++ map (own_row top (length out.old.items) (beside_names top members.now))
+        (sd_texts members.now)) }
 {
     match own_digests(members) {
         Some(digests) => list_texts(top, members, digests, out),
@@ -123,7 +137,11 @@ fn list_texts<'a>(
     out: &mut Vec<Row<'a>>,
 ) -> Result<(), NoMemory>
     requires { IsSome (texts_of digests.now) }
-    ensures { OnOk result (map seen out.new.items ≡ map seen out.old.items ++ map (own_row top (length out.old.items) (beside_names top members.now)) (unwrap_or (texts_of digests.now) [])) }
+    ensures { OnOk result
+        (map seen out.new.items
+        ≡ map seen out.old.items
+        ++ map (own_row top (length out.old.items) (beside_names top members.now))
+        (unwrap_or (texts_of digests.now) [])) }
 {
     let object = out.len();
     for tree in digests.trees() {
@@ -151,8 +169,10 @@ pub(crate) fn all_rows<'a>(
 ) -> Result<RowList<'a>, NoMemory>
     requires payload { depth (tree_of payload.now) ≤ json_depth_max }
     requires values { ValuesShallow given.now }
-    ensures rows { IfOk result (λ list. map seen list.rows.items ≡ rows_of (tree_of payload.now) given.now) }
-    ensures ends { IfOk result (λ list. list.ends.items ≡ row_ends (tree_of payload.now) given.now) }
+    ensures rows { IfOk result
+        (λ list. map seen list.rows.items ≡ rows_of (tree_of payload.now) given.now) }
+    ensures ends { IfOk result
+        (λ list. list.ends.items ≡ row_ends (tree_of payload.now) given.now) }
 {
     // beside the digests of the disclosures stand some decoys
     let mut rows = Vec::with_capacity(alloc, given.len().saturating_add(given.len() / 8))?;

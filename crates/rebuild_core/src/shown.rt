@@ -19,7 +19,8 @@ pub(crate) struct Revealed {
     pub tree: Marked,
 }
 
-// The hidden members of an object, opened, in the order of their digests: each with its name and its mark.
+// The hidden members of an object, opened, in the order of their digests: each
+// with its name and its mark.
 pub(crate) type HiddenMembers = Vec<(TextBox, Option<u32>, Marked)>;
 
 // The members of an object, opened and not yet in one map.
@@ -41,7 +42,9 @@ impl OpenedMembers {
 // At the end of an array.
 #[tactic(auto, using(crate::proofs::ShownDepths::joined_push))]
 pub(crate) fn push_element(out: &mut MarkedList, shown: Option<Revealed>) -> Result<(), NoMemory>
-    ensures { OnOk result ((es : MarkedElements) → joined out.new es ≡ joined out.old (show_element (shown_of shown) es)) }
+    ensures { OnOk result
+        ((es : MarkedElements)
+        → joined out.new es ≡ joined out.old (show_element (shown_of shown) es)) }
 {
     let Some(Revealed { mark, name, tree }) = shown else {
         return Ok(());
@@ -55,7 +58,11 @@ pub(crate) fn push_element(out: &mut MarkedList, shown: Option<Revealed>) -> Res
 // Behind other hidden members.
 #[tactic(auto, using(crate::proofs::ShownDepths::members_joined_push))]
 pub(crate) fn push_member(out: &mut HiddenMembers, shown: Option<Revealed>) -> Result<(), NoMemory>
-    ensures { OnOk result ((ms : MarkedMembers) → members_joined (marked_members_of out.new.items) ms ≡ members_joined (marked_members_of out.old.items) (shown_member (shown_of shown) ms)) }
+    ensures { OnOk result
+        ((ms : MarkedMembers)
+        → members_joined (marked_members_of out.new.items) ms
+        ≡ members_joined (marked_members_of out.old.items)
+        (shown_member (shown_of shown) ms)) }
 {
     let Some(Revealed { mark, name, tree }) = shown else {
         return Ok(());

@@ -48,7 +48,10 @@ pub fn without_alg(payload: Tree) -> Tree
 // The same, where it nests no deeper than [`DEPTH_MAX`].
 pub(crate) fn move_out(payload: Tree) -> Result<Tree, ProcessError>
     requires { depth_of (tree_of payload) ≤ json_depth_max }
-    ensures { MatchResult result (λ tree. (tree_of tree ≡ without_alg_of (tree_of payload)) × (depth_of (tree_of tree) ≤ depth_max)) (λ e. (e ≡ Refusal.TooDeep) × (depth_max < depth_of (without_alg_of (tree_of payload)))) }
+    ensures { MatchResult result
+        (λ tree. (tree_of tree ≡ without_alg_of (tree_of payload))
+        × (depth_of (tree_of tree) ≤ depth_max))
+        (λ e. (e ≡ Refusal.TooDeep) × (depth_max < depth_of (without_alg_of (tree_of payload)))) }
 {
     let tree = without_alg(payload);
     if depth(&tree) > DEPTH_MAX {

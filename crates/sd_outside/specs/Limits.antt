@@ -13,7 +13,8 @@ compact_max = 8388608
 abbrev pub issue_max : ℕ
 issue_max = 8380416
 
--- the most disclosures of a token, and the most hidden places and decoys of an order, in all and in one entry
+-- the most disclosures of a token, and the most hidden places and decoys of an
+-- order, in all and in one entry
 abbrev pub count_max : ℕ
 count_max = 32768
 

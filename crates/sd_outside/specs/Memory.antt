@@ -1,4 +1,5 @@
--- Not needed to believe the program's promises: what contracts see of the cabinet, the sink and the source in memory.
+-- Not needed to believe the program's promises: what contracts see of the
+-- cabinet, the sink and the source in memory.
 use Rattle.std.specs.Prelude.{◌≡◌, ◌==◌, ◌<◌, ◌+◌, ◌-◌, ◌^◌, ◌++◌, min, ℕ, length, take, slice_index_or, IsTrue, List, [], ◌∷◌, Option, None, Some, bytes_eq, if◌then◌else◌}
 use Rattle.std.specs.List.{list_any}
 

@@ -6,8 +6,8 @@ use std::alloc::Global;
 
 /// Where bytes come from, by name.
 ///
-/// A cabinet tells what it holds or not: the clauses on content hold where it does. What it holds is
-/// the same after each fetch.
+/// A cabinet tells what it holds or not: the clauses on content hold where it
+/// does. What it holds is the same after each fetch.
 pub trait Cabinet {
     /// The bytes under a name, where the cabinet tells them.
     ghost holds: { Self → List ℕ → Option (List ℕ) };
@@ -20,11 +20,13 @@ pub trait Cabinet {
 
     /// The first `most` bytes under a name, or all where there are fewer.
     fn fetch(&mut self, alloc: Global, name: &str, most: usize) -> Result<ByteBox, FetchError>
-        ensures content { IfOk result (λ bytes. IfSome (holds self.old name.now) (λ file. bytes ≡ take most file)) }
+        ensures content { IfOk result
+            (λ bytes. IfSome (holds self.old name.now) (λ file. bytes ≡ take most file)) }
         ensures within { IfOk result (λ bytes. length bytes ≤ most) }
 
         // a failure has its cause, and names what was missed
-        ensures failed { IsErrOf result FetchError.Failed → Rose (faults self.old) (faults self.new) }
+        ensures failed { IsErrOf result FetchError.Failed
+            → Rose (faults self.old) (faults self.new) }
         ensures names { IsErrOf result FetchError.Failed → missed self.new ≡ Some name.now }
 
         // what stays

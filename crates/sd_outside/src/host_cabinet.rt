@@ -28,12 +28,12 @@ impl<R: Files> HostCabinet<R> {
     }
 }
 
-// The most bytes that one read asks for. Few, since they are filled with zeros before the first read, and most files
-// are short.
+// The most bytes that one read asks for. Few, since they are filled with zeros
+// before the first read, and most files are short.
 const BLOCK: usize = 8_192;
 
-// At most `most` bytes of a file. Each turn but the last takes a byte or more. The file is not asked for its size,
-// since the memory grows by doubling.
+// At most `most` bytes of a file. Each turn but the last takes a byte or more. The file is not
+// asked for its size, since the memory grows by doubling.
 fn read_front<F: Read>(alloc: Global, file: &mut F, most: usize) -> Result<ByteBox, FetchError>
     ensures { IfOk result (λ bytes. length bytes ≤ most) }
 {

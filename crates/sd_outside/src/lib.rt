@@ -1,8 +1,9 @@
 //! What stands outside the program, and the small owned values that each layer hands on.
 //!
-//! Bytes come from a [`Cabinet`], by name, or from a [`Source`], in pieces, and go to a [`Sink`]. These are traits with
-//! a meaning and a count of faults, so that a layer above can be proved without knowing which one it is given. The
-//! objects in memory tell what they hold; the objects of the host tell nothing, and are the trusted edge.
+//! Bytes come from a [`Cabinet`], by name, or from a [`Source`], in pieces, and go to a [`Sink`].
+//! These are traits with a meaning and a count of faults, so that a layer above can be proved
+//! without knowing which one it is given. The objects in memory tell what they hold; the objects of
+//! the host tell nothing, and are the trusted edge.
 #![tactic(auto)]
 
 mod byte_box;

@@ -23,7 +23,8 @@ impl Model for MemCabinet {
 
     ghost Value = { CabinetState };
 
-    ghost view = { λ c. record { files = c.files.items; faults = c.faults; missed = c.missed; calls = c.calls } };
+    ghost view = { λ c.
+        record { files = c.files.items; faults = c.faults; missed = c.missed; calls = c.calls } };
 }
 
 impl MemCabinet {
@@ -43,7 +44,8 @@ impl MemCabinet {
     /// Holds this content under the name, in place of what was there.
     pub fn add(&mut self, name: &str, content: &[u8]) -> Result<(), NoMemory>
         ensures stored { OnOk result (content_of self.new.files name.now ≡ Some content.now) }
-        ensures others { (other : List ℕ) → other ≢ name.now → content_of self.new.files other ≡ content_of self.old.files other }
+        ensures others { (other : List ℕ) → other ≢ name.now
+            → content_of self.new.files other ≡ content_of self.old.files other }
         ensures err { OnErr result (self.new.files ≡ self.old.files) }
         ensures faults { self.new.faults ≡ self.old.faults }
         ensures missed { self.new.missed ≡ self.old.missed }
@@ -73,7 +75,8 @@ impl MemCabinet {
 
 // Where the name stands first.
 fn place_of(files: &[(TextBox, ByteBox)], name: &str) -> Option<usize>
-    ensures { MatchOption result (content_of files.now name.now ≡ None) (IsPositionOf files.now name.now) }
+    ensures { MatchOption result (content_of files.now name.now ≡ None)
+        (IsPositionOf files.now name.now) }
 {
     for (i, file) in files.iter().enumerate() {
         if file.0.as_str() == name {
@@ -90,7 +93,8 @@ fn store(
     content: &[u8],
 ) -> Result<(), NoMemory>
     ensures stored { OnOk result (content_of files.new.items name.now ≡ Some content.now) }
-    ensures others { (other : List ℕ) → other ≢ name.now → content_of files.new.items other ≡ content_of files.old.items other }
+    ensures others { (other : List ℕ) → other ≢ name.now
+        → content_of files.new.items other ≡ content_of files.old.items other }
     ensures err { OnErr result (files.new.items ≡ files.old.items) }
 {
     let mut copy = ByteBox::new(alloc);
@@ -134,19 +138,27 @@ impl Cabinet for MemCabinet {
 
     fn fetch(&mut self, alloc: Global, name: &str, most: usize) -> Result<ByteBox, FetchError>
         // the clauses of the trait
-        ensures content { IfOk result (λ bytes. IfSome (content_of self.old.files name.now) (λ file. bytes ≡ take most file)) }
+        ensures content { IfOk result
+            (λ bytes.
+            IfSome (content_of self.old.files name.now) (λ file. bytes ≡ take most file)) }
         ensures within { IfOk result (λ bytes. length bytes ≤ most) }
         ensures failed { IsErrOf result FetchError.Failed → Rose self.old.faults self.new.faults }
         ensures names { IsErrOf result FetchError.Failed → self.new.missed ≡ Some name.now }
         ensures same_names { (result ≢ Err FetchError.Failed) → self.new.missed ≡ self.old.missed }
-        ensures same_holds { (other : List ℕ) → content_of self.new.files other ≡ content_of self.old.files other }
+        ensures same_holds { (other : List ℕ)
+            → content_of self.new.files other ≡ content_of self.old.files other }
         ensures later { self.old.faults ≤ self.new.faults }
 
-        // it fails exactly at a call that is to fail and where the name is not held, and just then it counts
+        // it fails exactly at a call that is to fail and where the name is not
+        // held, and just then it counts
         ensures asked { IfOk result (λ _. IsToFail self.old.calls → ⊥) }
-        ensures held { IfOk result (λ bytes. IsSomeAnd (content_of self.old.files name.now) (λ file. bytes ≡ take most file)) }
-        ensures cause { IsErrOf result FetchError.Failed → IsToFail self.old.calls ⊎ (content_of self.old.files name.now ≡ None) }
-        ensures counts { IsErrOf result FetchError.Failed → self.new.faults ≡ one_more self.old.faults }
+        ensures held { IfOk result
+            (λ bytes.
+            IsSomeAnd (content_of self.old.files name.now) (λ file. bytes ≡ take most file)) }
+        ensures cause { IsErrOf result FetchError.Failed
+            → IsToFail self.old.calls ⊎ (content_of self.old.files name.now ≡ None) }
+        ensures counts { IsErrOf result FetchError.Failed
+            → self.new.faults ≡ one_more self.old.faults }
         ensures same_count { (result ≢ Err FetchError.Failed) → self.new.faults ≡ self.old.faults }
         ensures calls { self.new.calls ≡ after_call self.old.calls }
     {

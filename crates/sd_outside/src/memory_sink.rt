@@ -23,7 +23,8 @@ impl Model for MemSink {
 
     ghost Value = { SinkState };
 
-    ghost view = { λ s. record { bytes = s.bytes.items; room = s.room; faults = s.faults; calls = s.calls } };
+    ghost view = { λ s.
+        record { bytes = s.bytes.items; room = s.room; faults = s.faults; calls = s.calls } };
 
     ghost invariant = { λ s. (vec_len s.bytes ≤ s.room) × (s.room ≤ vec_capacity s.bytes) };
 }
@@ -31,7 +32,8 @@ impl Model for MemSink {
 impl MemSink {
     /// An empty sink. It takes the memory for the whole room, in bytes.
     pub fn new(alloc: Global, room: usize) -> Result<MemSink, NoMemory>
-        ensures { IfOk result (λ s. s ≡ record { bytes = []; room = room; faults = 0; calls = no_calls }) }
+        ensures { IfOk result
+            (λ s. s ≡ record { bytes = []; room = room; faults = 0; calls = no_calls }) }
     {
         Ok(MemSink {
             bytes: Vec::with_capacity(alloc, room)?,
@@ -74,18 +76,22 @@ impl Sink for MemSink {
 
     fn put(&mut self, bytes: &[u8]) -> Result<(), Failed>
         // the clauses of the trait
-        ensures whole { OnOk result (Appends (Some self.old.bytes) (Some self.new.bytes) bytes.now) }
-        ensures part { OnErr result (AppendsPrefix (Some self.old.bytes) (Some self.new.bytes) bytes.now) }
+        ensures whole { OnOk result
+            (Appends (Some self.old.bytes) (Some self.new.bytes) bytes.now) }
+        ensures part { OnErr result
+            (AppendsPrefix (Some self.old.bytes) (Some self.new.bytes) bytes.now) }
         ensures failed { OnErr result (Rose self.old.faults self.new.faults) }
         ensures later { self.old.faults ≤ self.new.faults }
 
-        // it fails exactly at a call that is to fail, which writes nothing, and where the piece does not fit; what fits
-        // is written, and just then it counts
+        // it fails exactly at a call that is to fail, which writes nothing, and where the piece
+        // does not fit; what fits is written, and just then it counts
         ensures asked { OnOk result (IsToFail self.old.calls → ⊥) }
         ensures fits { OnOk result (length self.old.bytes + length bytes.now ≤ self.old.room) }
-        ensures cause { OnErr result (IsToFail self.old.calls ⊎ (self.old.room < length self.old.bytes + length bytes.now)) }
+        ensures cause { OnErr result
+            (IsToFail self.old.calls ⊎ (self.old.room < length self.old.bytes + length bytes.now)) }
         ensures nothing { IsToFail self.old.calls → self.new.bytes ≡ self.old.bytes }
-        ensures front { (IsToFail self.old.calls → ⊥) → self.new.bytes ≡ take self.old.room (self.old.bytes ++ bytes.now) }
+        ensures front { (IsToFail self.old.calls → ⊥)
+            → self.new.bytes ≡ take self.old.room (self.old.bytes ++ bytes.now) }
         ensures counts { OnErr result (self.new.faults ≡ one_more self.old.faults) }
         ensures same_count { OnOk result (self.new.faults ≡ self.old.faults) }
         ensures same_room { self.new.room ≡ self.old.room }

@@ -7,7 +7,8 @@ use crate::{Failed, NoMemory, Source};
 use std::alloc::Global;
 use std::marker::Model;
 
-/// A source in memory, which tells what it has left and gives it in pieces of at most a fixed length.
+/// A source in memory, which tells what it has left and gives it in pieces of
+/// at most a fixed length.
 #[derive(Debug, Drop)]
 pub struct MemSource {
     content: Vec<u8>,
@@ -23,7 +24,13 @@ impl Model for MemSource {
 
     ghost Value = { SourceState };
 
-    ghost view = { λ s. record { left = drop s.at s.content.items; taken = s.at; step = s.step; faults = s.faults; calls = s.calls } };
+    ghost view = { λ s. record {
+      left = drop s.at s.content.items;
+      taken = s.at;
+      step = s.step;
+      faults = s.faults;
+      calls = s.calls;
+    } };
 
     ghost invariant = { λ s. (s.at ≤ vec_len s.content) × (0 < s.step) };
 }
@@ -32,7 +39,15 @@ impl MemSource {
     /// A source of these bytes, which gives at most `step` of them in one pull.
     pub fn new(alloc: Global, content: &[u8], step: usize) -> Result<MemSource, NoMemory>
         requires { 0 < step }
-        ensures { IfOk result (λ s. s ≡ record { left = content.now; taken = 0; step = step; faults = 0; calls = no_calls }) }
+        ensures { IfOk result
+            (λ s. s
+            ≡ record {
+              left = content.now;
+              taken = 0;
+              step = step;
+              faults = 0;
+              calls = no_calls;
+            }) }
     {
         Ok(MemSource {
             content: content.to_vec(alloc)?,
@@ -63,7 +78,8 @@ impl MemSource {
     }
 }
 
-// Puts the front of the content into the front of the room, as many bytes as fit and at most `step`.
+// Puts the front of the content into the front of the room, as many bytes as
+// fit and at most `step`.
 fn fill(content: &[u8], room: &mut [u8], step: usize) -> usize
     ensures count { result ≡ min step (min (length room.old) (length content.now)) }
     ensures filled { take result room.new ≡ take result content.now }
@@ -84,7 +100,8 @@ impl Source for MemSource {
         requires { 0 < length room.old }
 
         // the clauses of the trait
-        ensures gives { IfOk result (λ count. self.old.left ≡ take count room.new ++ self.new.left) }
+        ensures gives { IfOk result
+            (λ count. self.old.left ≡ take count room.new ++ self.new.left) }
         ensures within { IfOk result (λ count. count ≤ length room.old) }
         ensures counts { IfOk result (λ count. self.new.taken ≡ self.old.taken + count) }
         ensures end { IfOk result (λ count. count ≡ 0 → self.old.left ≡ []) }
@@ -93,11 +110,12 @@ impl Source for MemSource {
         ensures same_taken { OnErr result (self.new.taken ≡ self.old.taken) }
         ensures later { self.old.faults ≤ self.new.faults }
 
-        // it fails exactly at a call that is to fail, and just then it counts; else it gives the least of the step, the
-        // room and what is left
+        // it fails exactly at a call that is to fail, and just then it counts; else it gives the
+        // least of the step, the room and what is left
         ensures asked { OnOk result (IsToFail self.old.calls → ⊥) }
         ensures cause { OnErr result (IsToFail self.old.calls) }
-        ensures least { IfOk result (λ count. count ≡ min self.old.step (min (length room.old) (length self.old.left))) }
+        ensures least { IfOk result
+            (λ count. count ≡ min self.old.step (min (length room.old) (length self.old.left))) }
         ensures counts_faults { OnErr result (self.new.faults ≡ one_more self.old.faults) }
         ensures same_count { OnOk result (self.new.faults ≡ self.old.faults) }
         ensures same_step { self.new.step ≡ self.old.step }

@@ -12,10 +12,12 @@ pub trait Sink {
     /// How often a put has failed.
     ghost faults: { Self → ℕ };
 
-    /// Writes a whole piece. It takes no memory. Where it fails, a front part of the piece was written.
+    /// Writes a whole piece. It takes no memory. Where it fails, a front part
+    /// of the piece was written.
     fn put(&mut self, bytes: &[u8]) -> Result<(), Failed>
         ensures whole { OnOk result (Appends (written self.old) (written self.new) bytes.now) }
-        ensures part { OnErr result (AppendsPrefix (written self.old) (written self.new) bytes.now) }
+        ensures part { OnErr result
+            (AppendsPrefix (written self.old) (written self.new) bytes.now) }
         ensures failed { OnErr result (Rose (faults self.old) (faults self.new)) }
         ensures later { faults self.old ≤ faults self.new };
 }

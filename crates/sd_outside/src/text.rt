@@ -5,7 +5,8 @@ use std::alloc::Global;
 use std::cmp::Ordering;
 use std::marker::Model;
 
-/// An owned text. Contracts see its bytes, which are UTF-8, and texts are equal and ordered by them.
+/// An owned text. Contracts see its bytes, which are UTF-8, and texts are equal
+/// and ordered by them.
 #[derive(Debug, Drop)]
 pub struct TextBox {
     text: String,

@@ -1,8 +1,8 @@
-//! Runs every row of the tables that lie in the folder that it is run in, and tells which ones leave something else
-//! than they say.
+//! Runs every row of the tables that lie in the folder that it is run in, and
+//! tells which ones leave something else than they say.
 //!
-//! A table is a file whose name ends in `.rows`; the file `names.txt` has names for all tables. `README.md` beside them
-//! has the language. With words, just the tables of these names are run.
+//! A table is a file whose name ends in `.rows`; the file `names.txt` has names for all tables.
+//! `README.md` beside them has the language. With words, just the tables of these names are run.
 #![tactic(auto)]
 
 use std::process::ExitCode;

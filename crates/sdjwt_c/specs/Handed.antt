@@ -1,4 +1,5 @@
--- Not needed to believe the program's promises: what a call leaves in the room that its caller gives for the answer.
+-- Not needed to believe the program's promises: what a call leaves in the room
+-- that its caller gives for the answer.
 use Rattle.std.specs.Prelude.{◌≡◌, ◌<◌, ◌≤◌, ◌⊎◌, ℕ, List, ◌++◌, length, drop}
 use Rattle.sd_outside.specs.Status.{status_number}
 use Rattle.sd_outside.specs.declared.status.Status.{Status}
@@ -50,7 +51,8 @@ pub record IsWithoutMemory (Misused : Type 0) (before after : List ℕ) (len : �
   pub kept : Misused → ⊥
   pub left : IsLeft before after len
 
--- by the status: the whole answer, or the whole line of a refusal, or the room that it needs, or nothing
+-- by the status: the whole answer, or the whole line of a refusal, or the room
+-- that it needs, or nothing
 abbrev pub Hands : Type 0 → (Reply → Type 0) → List ℕ → List ℕ → ℕ → Status → Type 0
 Hands Misused Is before after len Done = HandsText (λ text. Is (gives text)) before after len
 Hands Misused Is before after len Refused = HandsText (λ text. Is (refuses text)) before after len
@@ -58,14 +60,18 @@ Hands Misused Is before after len Usage = IsMisused Misused before after len
 Hands Misused Is before after len Unread = ⊥
 Hands Misused Is before after len Unwritten = WantsRoom Is before after len
 Hands Misused Is before after len Memory = IsWithoutMemory Misused before after len
-Hands Misused Is before after len Unreadable = HandsText (λ text. Is (unreadable text)) before after len
+Hands Misused Is before after len Unreadable =
+    HandsText (λ text. Is (unreadable text)) before after len
 
 -- the number is that of a status which says what was handed
-pub record HandsBy (Misused : Type 0) (Is : Reply → Type 0) (before after : List ℕ) (len number : ℕ) : Type 0 where
+pub record HandsBy (Misused : Type 0) (Is : Reply → Type 0) (before after : List ℕ) (len number : ℕ)
+    : Type 0 where
   pub status : Status
   pub number_is : number ≡ status_number status
   pub hands : Hands Misused Is before after len status
 
 -- for private functions: the text was written, with this status, or it is too long
 abbrev pub IsGiven : List ℕ → Status → List ℕ → List ℕ → ℕ → Status → Type 0
-IsGiven text told before after len status = ((status ≡ told) × IsInRoom text before after len) ⊎ ((status ≡ Unwritten) × IsTooLong text before after len)
+IsGiven text told before after len status =
+    ((status ≡ told) × IsInRoom text before after len)
+    ⊎ ((status ≡ Unwritten) × IsTooLong text before after len)

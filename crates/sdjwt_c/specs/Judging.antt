@@ -1,4 +1,5 @@
--- Not needed to believe the program's promises: what is told of a token whose signatures the caller checks.
+-- Not needed to believe the program's promises: what is told of a token whose
+-- signatures the caller checks.
 use Rattle.std.specs.Prelude.{◌≡◌, ◌⊎◌, ℕ, List, codes}
 use Rattle.claim_tree.specs.JsonText.{json_text}
 use Rattle.claim_tree.specs.Tree.{Text, Tree}
@@ -41,29 +42,36 @@ pub record Refuses (token : List ℕ) (demands : Demands) (now : ℕ) (text : Li
   pub line_is : text ≡ refusal fault
 
 -- the question about the issuer's signature, with its line
-pub record AsksOfIssuer (token : List ℕ) (demands : Demands) (now : ℕ) (answers : Answers) (text : List ℕ) : Type 0 where
+pub record AsksOfIssuer (token : List ℕ) (demands : Demands) (now : ℕ) (answers : Answers)
+    (text : List ℕ) : Type 0 where
   pub question : Question
   pub asked : AsksIssuer token demands now answers question
   pub line_is : text ≡ line (json_text (issuer_question question))
 
 -- the question about the holder's signature beside the processed payload, with its line
-pub record AsksOfHolder (token : List ℕ) (demands : Demands) (now : ℕ) (answers : Answers) (text : List ℕ) : Type 0 where
+pub record AsksOfHolder (token : List ℕ) (demands : Demands) (now : ℕ) (answers : Answers)
+    (text : List ℕ) : Type 0 where
   pub question : Question
   pub payload : Tree
   pub asked : AsksHolder token demands now answers question payload
   pub line_is : text ≡ line (json_text (holder_question question payload))
 
 -- what was said last was asked for, and nothing more is to be known
-pub record IsSaidAll (token : List ℕ) (demands : Demands) (now : ℕ) (answers : Answers) : Type 0 where
+pub record IsSaidAll (token : List ℕ) (demands : Demands) (now : ℕ) (answers : Answers)
+    : Type 0 where
   pub was_asked : WasAsked token demands now answers
   pub done : IsAskedNext token demands now answers → ⊥
 
--- a verdict where all is said, a question where it is not, and neither where something was said that was not asked for
+-- a verdict where all is said, a question where it is not, and neither where
+-- something was said that was not asked for
 abbrev pub Tells : List ℕ → Demands → ℕ → Answers → Told → Type 0
-Tells token demands now answers (replies (gives text)) = Accepts token demands now text × IsSaidAll token demands now answers
-Tells token demands now answers (replies (refuses text)) = Refuses token demands now text × IsSaidAll token demands now answers
+Tells token demands now answers (replies (gives text)) =
+    Accepts token demands now text × IsSaidAll token demands now answers
+Tells token demands now answers (replies (refuses text)) =
+    Refuses token demands now text × IsSaidAll token demands now answers
 Tells token demands now answers (replies (unreadable text)) = ⊥
-Tells token demands now answers (asks text) = AsksOfIssuer token demands now answers text ⊎ AsksOfHolder token demands now answers text
+Tells token demands now answers (asks text) =
+    AsksOfIssuer token demands now answers text ⊎ AsksOfHolder token demands now answers text
 Tells token demands now answers unasked = WasAsked token demands now answers → ⊥
 
 -- ---- under a policy, and under that of a file
@@ -73,14 +81,17 @@ abbrev pub TellsNoAlgs : List ℕ → Told → Type 0
 TellsNoAlgs algs (replies (unreadable text)) = SaysNoAlgs algs text
 TellsNoAlgs algs _ = ⊥
 
--- the algorithms of the holder are these, and this is told where the caller is in the place of the keys
-pub record TellsUnder (policy : Policy) (algs token : List ℕ) (now : ℕ) (answers : Answers) (told : Told) : Type 0 where
+-- the algorithms of the holder are these, and this is told where the caller is
+-- in the place of the keys
+pub record TellsUnder (policy : Policy) (algs token : List ℕ) (now : ℕ) (answers : Answers)
+    (told : Told) : Type 0 where
   pub names : List Text
   pub says : SaysAlgs policy algs names
   pub tells : Tells token (caller_demands policy names answers) now answers told
 
 abbrev pub JudgesUnder : Policy → List ℕ → List ℕ → ℕ → Answers → Told → Type 0
-JudgesUnder policy algs token now answers told = TellsNoAlgs algs told ⊎ TellsUnder policy algs token now answers told
+JudgesUnder policy algs token now answers told =
+    TellsNoAlgs algs told ⊎ TellsUnder policy algs token now answers told
 
 -- the file says no policy
 abbrev pub TellsNoPolicy : List ℕ → Told → Type 0
@@ -88,22 +99,31 @@ TellsNoPolicy file (replies (unreadable text)) = TellsFileFault (IsPolicyFileRef
 TellsNoPolicy file _ = ⊥
 
 -- the file says this policy, and this is told under it
-pub record JudgesBy (file algs token : List ℕ) (now : ℕ) (answers : Answers) (told : Told) : Type 0 where
+pub record JudgesBy (file algs token : List ℕ) (now : ℕ) (answers : Answers) (told : Told)
+    : Type 0 where
   pub policy : Policy
   pub is_policy : IsPolicyFile file policy
   pub judges : JudgesUnder policy algs token now answers told
 
 abbrev pub JudgesFile : List ℕ → List ℕ → List ℕ → ℕ → Answers → Told → Type 0
-JudgesFile file algs token now answers told = TellsNoPolicy file told ⊎ JudgesBy file algs token now answers told
+JudgesFile file algs token now answers told =
+    TellsNoPolicy file told ⊎ JudgesBy file algs token now answers told
 
 -- ---- what is handed
 
 -- the text was written, with this number, or it is longer than the room
 abbrev pub HandsAs : ℕ → List ℕ → List ℕ → List ℕ → ℕ → ℕ → Type 0
-HandsAs told text before after len number = ((number ≡ told) × IsInRoom text before after len) ⊎ ((number ≡ 4) × IsTooLong text before after len)
+HandsAs told text before after len number =
+    ((number ≡ told) × IsInRoom text before after len)
+    ⊎ ((number ≡ 4) × IsTooLong text before after len)
 
--- a reply is handed as by every call; a question has the number 7, and the line of what was not asked for 8
-pub data HandsVerdictBy (Misused : Type 0) (Is : Told → Type 0) (before after : List ℕ) (len number : ℕ) : Type 0 where
-  replied : HandsBy Misused (λ reply. Is (replies reply)) before after len number → HandsVerdictBy Misused Is before after len number
-  asked : (text : List ℕ) → Is (asks text) → HandsAs 7 text before after len number → HandsVerdictBy Misused Is before after len number
-  not_asked : Is unasked → HandsAs 8 unasked_line before after len number → HandsVerdictBy Misused Is before after len number
+-- a reply is handed as by every call; a question has the number 7, and the line
+-- of what was not asked for 8
+pub data HandsVerdictBy (Misused : Type 0) (Is : Told → Type 0) (before after : List ℕ)
+    (len number : ℕ) : Type 0 where
+  replied : HandsBy Misused (λ reply. Is (replies reply)) before after len number
+      → HandsVerdictBy Misused Is before after len number
+  asked : (text : List ℕ) → Is (asks text) → HandsAs 7 text before after len number
+      → HandsVerdictBy Misused Is before after len number
+  not_asked : Is unasked → HandsAs 8 unasked_line before after len number
+      → HandsVerdictBy Misused Is before after len number

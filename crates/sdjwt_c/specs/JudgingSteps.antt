@@ -26,16 +26,23 @@ OnTold (Err Stop.Memory) Is = Unit {0}
 
 -- what is told of a judgement
 abbrev pub TellsJudgement : Result Judgement JudgeError → Told → Type 0
-TellsJudgement (Ok (Judgement.Accepted payload)) (replies (gives text)) = text ≡ line (json_text (tree_of payload))
+TellsJudgement (Ok (Judgement.Accepted payload)) (replies (gives text)) =
+    text ≡ line (json_text (tree_of payload))
 TellsJudgement (Ok (Judgement.Refused fault)) (replies (refuses text)) = text ≡ refusal fault
-TellsJudgement (Ok (Judgement.AsksIssuer question)) (asks text) = text ≡ line (json_text (issuer_question question))
-TellsJudgement (Ok (Judgement.AsksHolder question payload)) (asks text) = text ≡ line (json_text (holder_question question (tree_of payload)))
+TellsJudgement (Ok (Judgement.AsksIssuer question)) (asks text) =
+    text ≡ line (json_text (issuer_question question))
+TellsJudgement (Ok (Judgement.AsksHolder question payload)) (asks text) =
+    text ≡ line (json_text (holder_question question (tree_of payload)))
 TellsJudgement (Err JudgeError.NotAsked) unasked = Unit {0}
 TellsJudgement _ _ = ⊥
 
 -- it is handed by its number
 abbrev pub IsHandedVerdict : Result Verdict Stop → List ℕ → List ℕ → ℕ → ℕ → Type 0
-IsHandedVerdict (Ok (Verdict.Accepted text)) before after len number = (status : Status) × (number ≡ status_number status) × IsHanded (Ok text) before after len status
-IsHandedVerdict (Ok (Verdict.Asks text)) before after len number = HandsAs 7 (string_bytes text) before after len number
-IsHandedVerdict (Ok Verdict.NotAsked) before after len number = HandsAs 8 unasked_line before after len number
-IsHandedVerdict (Err why) before after len number = (status : Status) × (number ≡ status_number status) × IsHanded (Err why) before after len status
+IsHandedVerdict (Ok (Verdict.Accepted text)) before after len number =
+    (status : Status) × (number ≡ status_number status) × IsHanded (Ok text) before after len status
+IsHandedVerdict (Ok (Verdict.Asks text)) before after len number =
+    HandsAs 7 (string_bytes text) before after len number
+IsHandedVerdict (Ok Verdict.NotAsked) before after len number =
+    HandsAs 8 unasked_line before after len number
+IsHandedVerdict (Err why) before after len number =
+    (status : Status) × (number ≡ status_number status) × IsHanded (Err why) before after len status

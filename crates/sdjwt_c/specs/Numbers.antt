@@ -1,4 +1,5 @@
--- Not needed to believe the program's promises: the numbers by which C names the forms of a token, and what is said of signatures.
+-- Not needed to believe the program's promises: the numbers by which C names
+-- the forms of a token, and what is said of signatures.
 use Rattle.std.specs.Prelude.{zero, suc, ℕ, Option, None, Some, option_map}
 use Rattle.key_binding.specs.declared.caller.SignatureAnswer.{SignatureAnswer}
 use Rattle.sdjwt_cli.specs.declared.form.Form.{Form}
@@ -26,7 +27,8 @@ issuer_numbered (suc n) = option_map (λ answer. Answers.Issuer answer) (answer_
 
 -- what is said of the holder's signature, where this was said of the issuer's
 abbrev pub holder_numbered : Option SignatureAnswer → ℕ → Option Answers
-holder_numbered (Some SignatureAnswer.Good) holder = option_map (λ answer. Answers.Holder answer) (answer_numbered holder)
+holder_numbered (Some SignatureAnswer.Good) holder =
+    option_map (λ answer. Answers.Holder answer) (answer_numbered holder)
 holder_numbered _ holder = None
 
 -- what is said of the two signatures

@@ -1,4 +1,5 @@
--- Not needed to believe the program's promises: the question about a signature, as the JSON that C gets.
+-- Not needed to believe the program's promises: the question about a signature,
+-- as the JSON that C gets.
 use Rattle.std.specs.Prelude.{Option, None, Some, codes}
 use Rattle.b64url_text.specs.Base64url.{b64}
 use Rattle.claim_tree.specs.Tree.{Text, text, Tree, leaf, object, Members, no_members, inserted}
@@ -13,14 +14,21 @@ with_maybe members name (Some value) = with_text members name value
 
 -- whose signature it is about, and what is in every question, in the order of the names
 abbrev pub with_asked : Text → Question → Members
-with_asked whose question = with_maybe (with_text (with_text no_members (codes "alg") question.header.alg) (codes "ask") whose) (codes "kid") question.header.kid
+with_asked whose question =
+    with_maybe
+    (with_text (with_text no_members (codes "alg") question.header.alg) (codes "ask") whose)
+    (codes "kid") question.header.kid
 
 abbrev pub question_members : Text → Question → Members
-question_members whose question = with_maybe (with_text (with_text (with_asked whose question) (codes "signature") (b64 question.signature)) (codes "text") question.text) (codes "typ") question.header.typ
+question_members whose question =
+    with_maybe
+    (with_text (with_text (with_asked whose question) (codes "signature") (b64 question.signature))
+    (codes "text") question.text) (codes "typ") question.header.typ
 
 abbrev pub issuer_question : Question → Tree
 issuer_question question = object (question_members (codes "issuer") question)
 
 -- about the holder's, beside the processed payload
 abbrev pub holder_question : Question → Tree → Tree
-holder_question question payload = object (inserted (question_members (codes "holder") question) (codes "payload") payload)
+holder_question question payload =
+    object (inserted (question_members (codes "holder") question) (codes "payload") payload)

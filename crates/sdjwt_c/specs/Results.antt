@@ -9,8 +9,12 @@ use Rattle.cli_parts.specs.declared.stop.Stop.TheVariants.{Memory, Unread, Unrea
 use Rattle.sdjwt_c.specs.Handed.{IsGiven, IsLeft}
 
 abbrev pub IsHanded : Result (String Global) Stop → List ℕ → List ℕ → ℕ → Status → Type 0
-IsHanded (Ok text) before after len told = IsGiven (string_bytes text) status.Done before after len told
-IsHanded (Err (Refused text)) before after len told = IsGiven (string_bytes text) status.Refused before after len told
-IsHanded (Err (Unreadable text)) before after len told = IsGiven (string_bytes text) status.Unreadable before after len told
-IsHanded (Err (Unread word)) before after len told = (told ≡ status.Unread) × IsLeft before after len
+IsHanded (Ok text) before after len told =
+    IsGiven (string_bytes text) status.Done before after len told
+IsHanded (Err (Refused text)) before after len told =
+    IsGiven (string_bytes text) status.Refused before after len told
+IsHanded (Err (Unreadable text)) before after len told =
+    IsGiven (string_bytes text) status.Unreadable before after len told
+IsHanded (Err (Unread word)) before after len told =
+    (told ≡ status.Unread) × IsLeft before after len
 IsHanded (Err Memory) before after len told = (told ≡ status.Memory) × IsLeft before after len

@@ -1,4 +1,5 @@
--- Not needed to believe the program's promises: the algorithms that are taken of a holder, as C says them.
+-- Not needed to believe the program's promises: the algorithms that are taken
+-- of a holder, as C says them.
 use Rattle.std.specs.Prelude.{◌≡◌, ◌≢◌, ℕ, List, [], ◌∷◌}
 use Rattle.claim_tree.specs.FileForms.{IsTexts}
 use Rattle.claim_tree.specs.JsonText.{Reads}
@@ -17,7 +18,8 @@ pub record IsListText (bytes : List ℕ) (texts : List Text) : Type 0 where
 abbrev pub IsNoListText : List ℕ → Type 0
 IsNoListText bytes = (texts : List Text) → IsListText bytes texts → ⊥
 
--- these algorithms are taken of the holder: those of the list, or those of the policy where nothing is said
+-- these algorithms are taken of the holder: those of the list, or those of the
+-- policy where nothing is said
 abbrev pub SaysAlgs : Policy → List ℕ → List Text → Type 0
 SaysAlgs policy [] algs = algs ≡ policy.algs
 SaysAlgs policy (byte ∷ bytes) algs = IsListText (byte ∷ bytes) algs

@@ -17,12 +17,14 @@ use Rattle.issuer_core.specs.ToSign.{IsToSign, IsNotToSign, IsTokenWith, IsToken
 use Rattle.issuer_core.specs.UnsignedOrder.{IsUnsignedOrderFile, IsUnsignedOrderRefused}
 use Rattle.sd_outside.specs.Limits.{seed_len}
 
--- the bytes are no name of an algorithm: no text, the empty one, or that of the tokens that nobody signs
+-- the bytes are no name of an algorithm: no text, the empty one, or that of the
+-- tokens that nobody signs
 abbrev pub IsNoAlgName : List ℕ → Type 0
 IsNoAlgName bytes = (IsUtf8 bytes → ⊥) ⊎ ((bytes ≡ []) ⊎ (bytes ≡ codes "none"))
 
 -- what one file asks for, and the seed with which the other begins
-pub record IsAskedApart (order_file seed_file : List ℕ) (order : Order) (seed : List ℕ) : Type 0 where
+pub record IsAskedApart (order_file seed_file : List ℕ) (order : Order) (seed : List ℕ)
+    : Type 0 where
   pub said : code.Order
   pub is_order : IsUnsignedOrderFile order_file said
   pub order_is : order ≡ order_of said
@@ -53,19 +55,25 @@ pub record RefusesToSign (order_file seed_file text : List ℕ) : Type 0 where
 
 -- a file is not of its form, with this line: the order is judged first, and then the seed
 pub data HasNoUnsignedOrder (order_file seed_file text : List ℕ) : Type 0 where
-  no_order : (fault : FileFault) → IsUnsignedOrderRefused order_file fault → fault ≢ FileFault.Memory → text ≡ unreadable_line 1 fault → HasNoUnsignedOrder order_file seed_file text
-  no_seed : (said : code.Order) → IsUnsignedOrderFile order_file said → length seed_file < seed_len → text ≡ short_seed → HasNoUnsignedOrder order_file seed_file text
+  no_order : (fault : FileFault) → IsUnsignedOrderRefused order_file fault
+      → fault ≢ FileFault.Memory → text ≡ unreadable_line 1 fault
+      → HasNoUnsignedOrder order_file seed_file text
+  no_seed : (said : code.Order) → IsUnsignedOrderFile order_file said → length seed_file < seed_len
+      → text ≡ short_seed → HasNoUnsignedOrder order_file seed_file text
 
 -- ---- what is asked
 
--- the text is what is signed: the JWS header and the payload with the full stop between them (RFC 7515 section 5.1)
+-- the text is what is signed: the JWS header and the payload with the full stop
+-- between them (RFC 7515 section 5.1)
 pub record GivesSignedText (order_file alg seed_file text : List ℕ) : Type 0 where
   pub token : UnsignedToken
   pub is_unsigned : IsUnsignedFor order_file alg seed_file token
   pub text_is : text ≡ token.jwt.protected ++ (codes "." ++ token.jwt.payload)
 
 abbrev pub AsksToSign : List ℕ → List ℕ → List ℕ → Reply → Type 0
-AsksToSign order alg seed reply = Replies (GivesSignedText order alg seed) (RefusesToSign order seed) (HasNoUnsignedOrder order seed) reply
+AsksToSign order alg seed reply =
+    Replies (GivesSignedText order alg seed) (RefusesToSign order seed)
+    (HasNoUnsignedOrder order seed) reply
 
 -- ---- the token
 
@@ -83,16 +91,22 @@ pub record IsOverlongLine (token : UnsignedToken) (signature text : List ℕ) : 
   pub line_is : text ≡ line (issue_refusal_text error)
 
 -- what is so of what is to be signed for the files
-pub record OfUnsigned (order_file alg seed_file : List ℕ) (P : UnsignedToken → Type 0) : Type 0 where
+pub record OfUnsigned (order_file alg seed_file : List ℕ) (P : UnsignedToken → Type 0)
+    : Type 0 where
   pub token : UnsignedToken
   pub is_unsigned : IsUnsignedFor order_file alg seed_file token
   pub is_so : P token
 
 abbrev pub GivesToken : List ℕ → List ℕ → List ℕ → List ℕ → List ℕ → Type 0
-GivesToken order alg seed signature text = OfUnsigned order alg seed (λ token. IsTokenLine token signature text)
+GivesToken order alg seed signature text =
+    OfUnsigned order alg seed (λ token. IsTokenLine token signature text)
 
 abbrev pub RefusesToken : List ℕ → List ℕ → List ℕ → List ℕ → List ℕ → Type 0
-RefusesToken order alg seed signature text = RefusesToSign order seed text ⊎ OfUnsigned order alg seed (λ token. IsOverlongLine token signature text)
+RefusesToken order alg seed signature text =
+    RefusesToSign order seed text
+    ⊎ OfUnsigned order alg seed (λ token. IsOverlongLine token signature text)
 
 abbrev pub SignsToken : List ℕ → List ℕ → List ℕ → List ℕ → Reply → Type 0
-SignsToken order alg seed signature reply = Replies (GivesToken order alg seed signature) (RefusesToken order alg seed signature) (HasNoUnsignedOrder order seed) reply
+SignsToken order alg seed signature reply =
+    Replies (GivesToken order alg seed signature) (RefusesToken order alg seed signature)
+    (HasNoUnsignedOrder order seed) reply

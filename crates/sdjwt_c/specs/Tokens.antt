@@ -1,5 +1,5 @@
--- Not needed to believe the program's promises: the tokens of a wallet, as C gives them: one behind the
--- other, with their lengths.
+-- Not needed to believe the program's promises: the tokens of a wallet, as C
+-- gives them: one behind the other, with their lengths.
 use Rattle.std.specs.Prelude.{◌≡◌, ◌<◌, ◌≤◌, ℕ, List, [], ◌∷◌, length, take, drop}
 use Rattle.std.specs.List.{sum}
 use Rattle.sd_outside.specs.Limits.{tokens_max}

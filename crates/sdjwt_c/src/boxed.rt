@@ -31,7 +31,8 @@ pub(crate) fn put(handle: &mut SdjwtPolicy, policy: Box<Policy>)
 // The policy that a file says.
 pub(crate) fn read(alloc: Global, file: &[u8]) -> Result<Box<Policy>, Stop>
     ensures policy { IfOk result (λ policy. IsPolicyFile file.now policy.value) }
-    ensures unreadable { IfErr result (λ stop. OnUnreadable stop (TellsFileFault (IsPolicyFileRefused file.now))) }
+    ensures unreadable { IfErr result
+        (λ stop. OnUnreadable stop (TellsFileFault (IsPolicyFileRefused file.now))) }
     ensures fit { IfErr result (λ stop. OnRefused stop (λ _. ⊥)) }
     ensures read { IfErr result (λ stop. OnUnread stop (λ _. ⊥)) }
 {

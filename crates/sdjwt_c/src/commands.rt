@@ -1,7 +1,7 @@
 //! The commands, each over the bytes of its files.
 //!
-//! An answer has a line end behind it, as the program writes it. None of these reads a clock: the moment is in seconds
-//! since 1970.
+//! An answer has a line end behind it, as the program writes it. None of these
+//! reads a clock: the moment is in seconds since 1970.
 ghost use Rattle.std.specs.Prelude.{◌≡◌, None, IsSomeAnd};
 ghost use Rattle.sdjwt_cli.specs.Answers.{SplitAnswers, ShowAnswers, VerifyAnswers, IssueAnswers, PresentAnswers, ConvertAnswers};
 ghost use Rattle.sdjwt_c.specs.Handed.{HandsBy};
@@ -12,7 +12,8 @@ use sd_outside::Status;
 use sdjwt_cli::{Form, commands};
 use std::alloc::Global;
 
-/// The version of what C sees. It changes whenever a program that was compiled before no longer fits.
+/// The version of what C sees. It changes whenever a program that was compiled
+/// before no longer fits.
 #[unsafe(no_mangle)]
 pub extern "C" fn sdjwt_abi_version() -> u32
     ensures { result ≡ 1 }
@@ -29,7 +30,8 @@ pub extern "C" fn sdjwt_issue(
     room: &mut [u8],
     len: &mut usize,
 ) -> u8
-    ensures { HandsBy ⊥ (λ reply. IssueAnswers order.now seed.now reply) room.old room.new len.new result }
+    ensures { HandsBy ⊥ (λ reply. IssueAnswers order.now seed.now reply) room.old room.new len.new
+        result }
 {
     hand(commands::issue(alloc, order, seed), room, len).number()
 }
@@ -44,7 +46,8 @@ pub extern "C" fn sdjwt_present(
     room: &mut [u8],
     len: &mut usize,
 ) -> u8
-    ensures { HandsBy ⊥ (λ reply. PresentAnswers order.now token.now now reply) room.old room.new len.new result }
+    ensures { HandsBy ⊥ (λ reply. PresentAnswers order.now token.now now reply) room.old room.new
+        len.new result }
 {
     hand(commands::present(alloc, order, token, now), room, len).number()
 }
@@ -59,7 +62,8 @@ pub extern "C" fn sdjwt_verify(
     room: &mut [u8],
     len: &mut usize,
 ) -> u8
-    ensures { HandsBy ⊥ (λ reply. VerifyAnswers policy.now token.now now reply) room.old room.new len.new result }
+    ensures { HandsBy ⊥ (λ reply. VerifyAnswers policy.now token.now now reply) room.old room.new
+        len.new result }
 {
     hand(commands::verify(alloc, policy, token, now), room, len).number()
 }
@@ -92,7 +96,8 @@ fn form_of(number: u8) -> Option<Form>
     }
 }
 
-/// The token in a form: 0 is compact, 1 flattened JSON and 2 general JSON. With another number the call is misused.
+/// The token in a form: 0 is compact, 1 flattened JSON and 2 general JSON. With
+/// another number the call is misused.
 #[unsafe(no_mangle)]
 pub extern "C" fn sdjwt_convert(
     alloc: Global,
@@ -101,7 +106,9 @@ pub extern "C" fn sdjwt_convert(
     room: &mut [u8],
     len: &mut usize,
 ) -> u8
-    ensures { HandsBy (form_numbered form ≡ None) (λ reply. IsSomeAnd (form_numbered form) (λ form. ConvertAnswers form token.now reply)) room.old room.new len.new result }
+    ensures { HandsBy (form_numbered form ≡ None)
+        (λ reply. IsSomeAnd (form_numbered form) (λ form. ConvertAnswers form token.now reply))
+        room.old room.new len.new result }
 {
     match form_of(form) {
         Some(form) => hand(commands::convert(alloc, form, token), room, len).number(),

@@ -1,7 +1,7 @@
 //! Verifying where the caller checks the signatures: it is asked for each of them.
 //!
-//! What is said of a signature is a number: 0 where nothing is said yet, 1 where there is no key for it, 2 where it is
-//! bad, and 3 where it is good.
+//! What is said of a signature is a number: 0 where nothing is said yet, 1 where there is no key
+//! for it, 2 where it is bad, and 3 where it is good.
 ghost use Rattle.std.specs.Prelude.{◌≡◌, ◌⊎◌, None, IsSomeAnd};
 ghost use Rattle.sdjwt_c.specs.Numbers.{answers_numbered};
 ghost use Rattle.sdjwt_c.specs.Judging.{HandsVerdictBy, JudgesFile, JudgesUnder};
@@ -14,9 +14,10 @@ use crate::verdict::{Case, hand_verdict, judge_file, judge_under};
 use sd_outside::Status;
 use std::alloc::Global;
 
-/// The processed payload of a token that is accepted, or the question about its next signature. `algs` is a JSON list
-/// of the algorithms that are taken of the holder; where it is empty, they are those of the policy. With numbers that
-/// say nothing, or something of the holder's signature where the issuer's is not good, the call is misused.
+/// The processed payload of a token that is accepted, or the question about its next signature.
+/// `algs` is a JSON list of the algorithms that are taken of the holder; where it is empty, they
+/// are those of the policy. With numbers that say nothing, or something of the holder's signature
+/// where the issuer's is not good, the call is misused.
 #[unsafe(no_mangle)]
 pub extern "C" fn sdjwt_judge(
     alloc: Global,
@@ -29,7 +30,10 @@ pub extern "C" fn sdjwt_judge(
     room: &mut [u8],
     len: &mut usize,
 ) -> u8
-    ensures { HandsVerdictBy (answers_numbered issuer holder ≡ None) (λ told. IsSomeAnd (answers_numbered issuer holder) (λ answers. JudgesFile policy.now algs.now token.now now answers told)) room.old room.new len.new result }
+    ensures { HandsVerdictBy (answers_numbered issuer holder ≡ None)
+        (λ told. IsSomeAnd (answers_numbered issuer holder)
+        (λ answers. JudgesFile policy.now algs.now token.now now answers told)) room.old
+        room.new len.new result }
 {
     let Some(answers) = answers_of(issuer, holder) else {
         return leave(Status::Usage, len).number();
@@ -56,7 +60,12 @@ pub extern "C" fn sdjwt_policy_judge(
     room: &mut [u8],
     len: &mut usize,
 ) -> u8
-    ensures answers { HandsVerdictBy ((handle.old.held ≡ None) ⊎ (answers_numbered issuer holder ≡ None)) (λ told. IsSomeAnd handle.old.held (λ policy. IsSomeAnd (answers_numbered issuer holder) (λ answers. JudgesUnder policy algs.now token.now now answers told))) room.old room.new len.new result }
+    ensures answers { HandsVerdictBy
+        ((handle.old.held ≡ None) ⊎ (answers_numbered issuer holder ≡ None))
+        (λ told. IsSomeAnd handle.old.held
+        (λ policy. IsSomeAnd (answers_numbered issuer holder)
+        (λ answers. JudgesUnder policy algs.now token.now now answers told))) room.old
+        room.new len.new result }
     ensures kept { handle.new.held ≡ handle.old.held }
 {
     let Some(answers) = answers_of(issuer, holder) else {

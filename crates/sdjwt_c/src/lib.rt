@@ -1,9 +1,11 @@
-//! The commands of sdjwt for C, over bytes and into a buffer of the caller's. `c/sdjwt.h` is its header.
+//! The commands of sdjwt for C, over bytes and into a buffer of the caller's.
+//! `c/sdjwt.h` is its header.
 //!
-//! Each function of [`commands`] is one command, and each of [`tools`] one tool. Those of [`policy`] verify many tokens
-//! under one policy, which is read once and kept behind a handle. Those of [`judging`] verify where the caller checks
-//! the signatures, and those of [`signing`] issue where the caller makes them. What a call leaves in the buffer is said
-//! by `HandsBy` (`specs/Handed.antt`) and by `HandsVerdictBy` (`specs/Judging.antt`).
+//! Each function of [`commands`] is one command, and each of [`tools`] one tool. Those of
+//! [`policy`] verify many tokens under one policy, which is read once and kept behind a handle.
+//! Those of [`judging`] verify where the caller checks the signatures, and those of [`signing`]
+//! issue where the caller makes them. What a call leaves in the buffer is said by `HandsBy`
+//! (`specs/Handed.antt`) and by `HandsVerdictBy` (`specs/Judging.antt`).
 #![tactic(auto)]
 
 mod answer;

@@ -1,6 +1,7 @@
 //! Many tokens under one policy, which is read once.
 //!
-//! A handle holds a policy or none. C begins with one of zeros, which holds none, and ends with [`sdjwt_policy_free`].
+//! A handle holds a policy or none. C begins with one of zeros, which holds
+//! none, and ends with [`sdjwt_policy_free`].
 ghost use Rattle.std.specs.Prelude.{◌≡◌, ◌≢◌, None, IsSomeAnd};
 ghost use Rattle.sdjwt_c.specs.Handed.{HandsBy};
 ghost use Rattle.verifier_core.specs.PolicyFile.{IsPolicyFile};
@@ -13,8 +14,8 @@ use sd_outside::Status;
 use sdjwt_cli::commands;
 use std::alloc::Global;
 
-/// Reads a policy, which the handle holds from then on in place of what it held. Where it is none, the handle holds
-/// what it held before. The answer is empty.
+/// Reads a policy, which the handle holds from then on in place of what it held. Where it is none,
+/// the handle holds what it held before. The answer is empty.
 #[unsafe(no_mangle)]
 pub extern "C" fn sdjwt_policy_new(
     alloc: Global,
@@ -23,7 +24,8 @@ pub extern "C" fn sdjwt_policy_new(
     room: &mut [u8],
     len: &mut usize,
 ) -> u8
-    ensures answers { HandsBy ⊥ (λ reply. PolicyAnswers policy.now reply) room.old room.new len.new result }
+    ensures answers { HandsBy ⊥ (λ reply. PolicyAnswers policy.now reply) room.old room.new len.new
+        result }
     ensures holds { result ≡ 0 → IsSomeAnd handle.new.held (IsPolicyFile policy.now) }
     ensures kept { result ≢ 0 → handle.new.held ≡ handle.old.held }
 {
@@ -36,8 +38,8 @@ pub extern "C" fn sdjwt_policy_new(
     }
 }
 
-/// The processed payload of a token that is accepted under the policy of the handle. Where that holds none, the call is
-/// misused.
+/// The processed payload of a token that is accepted under the policy of the
+/// handle. Where that holds none, the call is misused.
 #[unsafe(no_mangle)]
 pub extern "C" fn sdjwt_policy_verify(
     alloc: Global,
@@ -47,7 +49,9 @@ pub extern "C" fn sdjwt_policy_verify(
     room: &mut [u8],
     len: &mut usize,
 ) -> u8
-    ensures answers { HandsBy (handle.old.held ≡ None) (λ reply. IsSomeAnd handle.old.held (λ policy. UnderAnswers policy token.now now reply)) room.old room.new len.new result }
+    ensures answers { HandsBy (handle.old.held ≡ None)
+        (λ reply. IsSomeAnd handle.old.held (λ policy. UnderAnswers policy token.now now reply))
+        room.old room.new len.new result }
     ensures kept { handle.new.held ≡ handle.old.held }
 {
     let Some(policy) = take(alloc, handle) else {

@@ -61,7 +61,8 @@ fn members_of(alloc: Global, whose: &str, question: Question) -> Result<TreeMap,
 
 // The question about the issuer's signature, as a line.
 pub(crate) fn issuer_line(alloc: Global, question: Question) -> Result<String, NoMemory>
-    ensures { IfOk result (λ text. string_bytes text ≡ line (json_text (issuer_question question))) }
+    ensures { IfOk result
+        (λ text. string_bytes text ≡ line (json_text (issuer_question question))) }
 {
     let members = members_of(alloc, "issuer", question)?;
     as_line(write(alloc, &Tree::Object(members))?)
@@ -73,7 +74,9 @@ pub(crate) fn holder_line(
     question: Question,
     payload: Tree,
 ) -> Result<String, NoMemory>
-    ensures { IfOk result (λ text. string_bytes text ≡ line (json_text (holder_question question (tree_of payload)))) }
+    ensures { IfOk result
+        (λ text.
+        string_bytes text ≡ line (json_text (holder_question question (tree_of payload)))) }
 {
     let mut members = members_of(alloc, "holder", question)?;
     put(alloc, &mut members, "payload", payload)?;

@@ -1,4 +1,5 @@
-// What a caller says for a judgement: of the two signatures by numbers, and the algorithms of the holder as JSON.
+// What a caller says for a judgement: of the two signatures by numbers, and the
+// algorithms of the holder as JSON.
 ghost use Rattle.std.specs.Prelude.{◌≡◌, IfOk, IfErr, IfSome, IfNone};
 ghost use Rattle.cli_parts.specs.Stops.{OnRefused, OnUnread, OnUnreadable};
 ghost use Rattle.sdjwt_c.specs.Numbers.{answer_numbered, answers_numbered};
@@ -23,8 +24,8 @@ fn answer_of(number: u8) -> Option<SignatureAnswer>
     }
 }
 
-// What was said of the issuer's signature and of the holder's. Of the holder's something may be said where the
-// issuer's is good.
+// What was said of the issuer's signature and of the holder's. Of the holder's
+// something may be said where the issuer's is good.
 pub(crate) fn answers_of(issuer: u8, holder: u8) -> Option<Answers>
     ensures { result ≡ answers_numbered issuer holder }
 {
@@ -61,7 +62,8 @@ fn list_of(alloc: Global, text: &[u8]) -> Result<Option<TextList>, NoMemory>
     }
 }
 
-// The algorithms that are taken of the holder: those of a JSON list, or those of the policy where the text is empty.
+// The algorithms that are taken of the holder: those of a JSON list, or those
+// of the policy where the text is empty.
 pub(crate) fn algs_of(alloc: Global, policy: &Policy, text: &[u8]) -> Result<TextList, Stop>
     ensures algs { IfOk result (SaysAlgs policy.now text.now) }
     ensures unreadable { IfErr result (λ stop. OnUnreadable stop (SaysNoAlgs text.now)) }

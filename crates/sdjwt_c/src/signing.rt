@@ -1,7 +1,8 @@
-//! Issuing where someone else signs: first the text that is to be signed, then the token with that signature.
+//! Issuing where someone else signs: first the text that is to be signed, then
+//! the token with that signature.
 //!
-//! Nothing is kept between the two calls. Each lays what the order says anew, so both are given the same order, name of
-//! an algorithm and seed. The order has no key, as `IsUnsignedOrderFile` says.
+//! Nothing is kept between the two calls. Each lays what the order says anew, so both are given the
+//! same order, name of an algorithm and seed. The order has no key, as `IsUnsignedOrderFile` says.
 ghost use Rattle.std.specs.Prelude.{◌≡◌, ◌≢◌, ◌<◌, ◌≤◌, ◌⊎◌, [], None, length, IfOk, IfErr, IfSome, string_bytes};
 ghost use Rattle.sd_outside.specs.Limits.{json_depth_max};
 ghost use Rattle.claim_tree.specs.Tree.{depth};
@@ -68,7 +69,8 @@ fn unsigned_for(
     requires depth { depth (tree_of order.payload) ≤ json_depth_max }
     ensures to_sign { IfOk result (IsToSign (maker_of seed.now) (order_of order) alg.now) }
     ensures words { IfOk result AreUnsignedWords }
-    ensures refuses { IfErr result (λ stop. OnRefused stop (TellsNotToSign seed.now (order_of order))) }
+    ensures refuses { IfErr result
+        (λ stop. OnRefused stop (TellsNotToSign seed.now (order_of order))) }
     ensures readable { IfErr result (λ stop. OnUnreadable stop (λ _. ⊥)) }
     ensures read { IfErr result (λ stop. OnUnread stop (λ _. ⊥)) }
 {
@@ -83,7 +85,8 @@ fn unsigned(alloc: Global, order: &[u8], alg: &str, seed: &[u8]) -> Result<Unsig
     ensures to_sign { IfOk result (IsUnsignedFor order.now alg.now seed.now) }
     ensures words { IfOk result AreUnsignedWords }
     ensures refuses { IfErr result (λ stop. OnRefused stop (RefusesToSign order.now seed.now)) }
-    ensures unreadable { IfErr result (λ stop. OnUnreadable stop (HasNoUnsignedOrder order.now seed.now)) }
+    ensures unreadable { IfErr result
+        (λ stop. OnUnreadable stop (HasNoUnsignedOrder order.now seed.now)) }
     ensures read { IfErr result (λ stop. OnUnread stop (λ _. ⊥)) }
 {
     let order = readable(alloc, read_unsigned_order(alloc, order))?;
@@ -95,9 +98,11 @@ fn unsigned(alloc: Global, order: &[u8], alg: &str, seed: &[u8]) -> Result<Unsig
 
 // The text that is to be signed for an order.
 fn asked_text(alloc: Global, order: &[u8], alg: &str, seed: &[u8]) -> Result<String, Stop>
-    ensures asks { IfOk result (λ text. GivesSignedText order.now alg.now seed.now (string_bytes text)) }
+    ensures asks { IfOk result
+        (λ text. GivesSignedText order.now alg.now seed.now (string_bytes text)) }
     ensures refuses { IfErr result (λ stop. OnRefused stop (RefusesToSign order.now seed.now)) }
-    ensures unreadable { IfErr result (λ stop. OnUnreadable stop (HasNoUnsignedOrder order.now seed.now)) }
+    ensures unreadable { IfErr result
+        (λ stop. OnUnreadable stop (HasNoUnsignedOrder order.now seed.now)) }
     ensures read { IfErr result (λ stop. OnUnread stop (λ _. ⊥)) }
 {
     let token = unsigned(alloc, order, alg, seed)?;
@@ -128,18 +133,21 @@ fn signed_token(
     signature: &[u8],
 ) -> Result<String, Stop>
     requires some { 0 < length signature.now }
-    ensures gives { IfOk result (λ text. GivesToken order.now alg.now seed.now signature.now (string_bytes text)) }
-    ensures refuses { IfErr result (λ stop. OnRefused stop (RefusesToken order.now alg.now seed.now signature.now)) }
-    ensures unreadable { IfErr result (λ stop. OnUnreadable stop (HasNoUnsignedOrder order.now seed.now)) }
+    ensures gives { IfOk result
+        (λ text. GivesToken order.now alg.now seed.now signature.now (string_bytes text)) }
+    ensures refuses { IfErr result
+        (λ stop. OnRefused stop (RefusesToken order.now alg.now seed.now signature.now)) }
+    ensures unreadable { IfErr result
+        (λ stop. OnUnreadable stop (HasNoUnsignedOrder order.now seed.now)) }
     ensures read { IfErr result (λ stop. OnUnread stop (λ _. ⊥)) }
 {
     let token = unsigned(alloc, order, alg, seed)?;
     token_line(alloc, token, signature)
 }
 
-/// The text that is to be signed of a token for an order without a key, by an algorithm of this name. There is no line
-/// end behind it: the signature is over just these bytes. Where the name is no text, empty or `none`, the call is
-/// misused.
+/// The text that is to be signed of a token for an order without a key, by an algorithm of this
+/// name. There is no line end behind it: the signature is over just these bytes. Where the name is
+/// no text, empty or `none`, the call is misused.
 #[unsafe(no_mangle)]
 pub extern "C" fn sdjwt_issue_ask(
     alloc: Global,
@@ -149,7 +157,8 @@ pub extern "C" fn sdjwt_issue_ask(
     room: &mut [u8],
     len: &mut usize,
 ) -> u8
-    ensures { HandsBy (IsNoAlgName alg.now) (AsksToSign order.now alg.now seed.now) room.old room.new len.new result }
+    ensures { HandsBy (IsNoAlgName alg.now) (AsksToSign order.now alg.now seed.now) room.old
+        room.new len.new result }
 {
     match alg_name(alg) {
         Some(alg) => hand(asked_text(alloc, order, alg, seed), room, len).number(),
@@ -168,7 +177,8 @@ pub extern "C" fn sdjwt_issue_sign(
     room: &mut [u8],
     len: &mut usize,
 ) -> u8
-    ensures { HandsBy ((signature.now ≡ []) ⊎ IsNoAlgName alg.now) (SignsToken order.now alg.now seed.now signature.now) room.old room.new len.new result }
+    ensures { HandsBy ((signature.now ≡ []) ⊎ IsNoAlgName alg.now)
+        (SignsToken order.now alg.now seed.now signature.now) room.old room.new len.new result }
 {
     if signature.is_empty() {
         return leave(Status::Usage, len).number();

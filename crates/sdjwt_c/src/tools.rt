@@ -20,7 +20,8 @@ pub extern "C" fn sdjwt_audit(
     room: &mut [u8],
     len: &mut usize,
 ) -> u8
-    ensures { HandsBy ⊥ (λ reply. AuditAnswers order.now token.now reply) room.old room.new len.new result }
+    ensures { HandsBy ⊥ (λ reply. AuditAnswers order.now token.now reply) room.old room.new len.new
+        result }
 {
     hand(audit_files(alloc, order, token), room, len).number()
 }
@@ -59,8 +60,8 @@ fn cut(alloc: Global, text: &[u8], lengths: &[usize]) -> Result<CredentialList, 
     Ok(held)
 }
 
-/// What a wallet shows for a query, of 1 to 64 tokens that stand one behind the other, with their lengths. With other
-/// lengths the call is misused.
+/// What a wallet shows for a query, of 1 to 64 tokens that stand one behind the other, with their
+/// lengths. With other lengths the call is misused.
 #[unsafe(no_mangle)]
 pub extern "C" fn sdjwt_wallet(
     alloc: Global,
@@ -70,7 +71,10 @@ pub extern "C" fn sdjwt_wallet(
     room: &mut [u8],
     len: &mut usize,
 ) -> u8
-    ensures { HandsBy (AreLengths lengths.now tokens.now → ⊥) (λ reply. AreLengths lengths.now tokens.now × WalletAnswers query.now (pieces lengths.now tokens.now) reply) room.old room.new len.new result }
+    ensures { HandsBy (AreLengths lengths.now tokens.now → ⊥)
+        (λ reply. AreLengths lengths.now tokens.now
+        × WalletAnswers query.now (pieces lengths.now tokens.now) reply) room.old room.new
+        len.new result }
 {
     if !are_lengths(tokens, lengths) {
         return leave(Status::Usage, len).number();

@@ -1,4 +1,5 @@
-// The verdict on a token whose signatures the caller checks, on its way into the room of the caller.
+// The verdict on a token whose signatures the caller checks, on its way into
+// the room of the caller.
 ghost use Rattle.sdjwt_c.specs.Judging.{HandsAs, JudgesFile, JudgesUnder};
 ghost use Rattle.sdjwt_c.specs.JudgingSteps.{IsHandedVerdict, OnTold, TellsJudgement};
 
@@ -57,7 +58,9 @@ fn told(alloc: Global, judged: Result<Judgement, JudgeError>) -> Result<Verdict,
 
 // What is told under a policy that is read.
 pub(crate) fn judge_under(alloc: Global, policy: &Policy, case: Case<'_>) -> Result<Verdict, Stop>
-    ensures { OnTold result (JudgesUnder policy.now case.entry.algs.now case.entry.token.now case.entry.now case.entry.answers) }
+    ensures { OnTold result
+        (JudgesUnder policy.now case.entry.algs.now case.entry.token.now case.entry.now
+        case.entry.answers) }
 {
     let algs = algs_of(alloc, policy, case.algs)?;
     told(
@@ -76,7 +79,9 @@ pub(crate) fn judge_under(alloc: Global, policy: &Policy, case: Case<'_>) -> Res
 
 // What is told under the policy of a file.
 pub(crate) fn judge_file(alloc: Global, file: &[u8], case: Case<'_>) -> Result<Verdict, Stop>
-    ensures { OnTold result (JudgesFile file.now case.entry.algs.now case.entry.token.now case.entry.now case.entry.answers) }
+    ensures { OnTold result
+        (JudgesFile file.now case.entry.algs.now case.entry.token.now case.entry.now
+        case.entry.answers) }
 {
     let policy = policy_of(alloc, file)?;
     judge_under(alloc, &policy, case)

@@ -23,16 +23,22 @@ abbrev pub ShowAnswers : List ℕ → Reply → Type 0
 ShowAnswers file reply = Replies (Shows file) (TellsFault (IsShowRefused file)) (λ _. ⊥) reply
 
 abbrev pub VerifyAnswers : List ℕ → List ℕ → ℕ → Reply → Type 0
-VerifyAnswers policy token now reply = Replies (Verifies policy token now) (DoesNotVerify policy token now) (TellsFileFault (IsPolicyFileRefused policy)) reply
+VerifyAnswers policy token now reply =
+    Replies (Verifies policy token now) (DoesNotVerify policy token now)
+    (TellsFileFault (IsPolicyFileRefused policy)) reply
 
 abbrev pub IssueAnswers : List ℕ → List ℕ → Reply → Type 0
-IssueAnswers order seed reply = Replies (Issues order seed) (DoesNotIssue order seed) (HasNoOrder order seed) reply
+IssueAnswers order seed reply =
+    Replies (Issues order seed) (DoesNotIssue order seed) (HasNoOrder order seed) reply
 
 abbrev pub PresentAnswers : List ℕ → List ℕ → ℕ → Reply → Type 0
-PresentAnswers order token now reply = Replies (Presents order token now) (DoesNotPresent order token now) (TellsFileFault (IsPresentFileRefused order)) reply
+PresentAnswers order token now reply =
+    Replies (Presents order token now) (DoesNotPresent order token now)
+    (TellsFileFault (IsPresentFileRefused order)) reply
 
 abbrev pub ConvertAnswers : Form → List ℕ → Reply → Type 0
-ConvertAnswers form file reply = Replies (Converts form file) (TellsFault (IsConvertRefused form file)) (λ _. ⊥) reply
+ConvertAnswers form file reply =
+    Replies (Converts form file) (TellsFault (IsConvertRefused form file)) (λ _. ⊥) reply
 
 abbrev pub GenAnswers : ℕ → Reply → Type 0
 GenAnswers count reply = Replies (Summarizes count) (DoesNotSummarize count) (λ _. ⊥) reply
@@ -50,14 +56,23 @@ Answers _ _ now reply = ⊥
 
 -- each file is what a fetch answers, where the cabinet tells it
 abbrev pub AreFetched : (List ℕ → Option (List ℕ)) → Command → List (List ℕ) → Type 0
-AreFetched holds command files = AllZip (λ (wanted : NamedFile) (file : List ℕ). IfSome (holds wanted.name) (λ content. file ≡ take wanted.most content)) (files_of command) files
+AreFetched holds command files =
+    AllZip
+    (λ (wanted : NamedFile) (file : List ℕ).
+    IfSome (holds wanted.name) (λ content. file ≡ take wanted.most content)) (files_of command)
+    files
 
 -- the reply of a command over what the cabinet holds
-pub record IsAnswered (holds : List ℕ → Option (List ℕ)) (command : Command) (now : ℕ) (reply : Reply) : Type 0 where
+pub record IsAnswered (holds : List ℕ → Option (List ℕ)) (command : Command) (now : ℕ)
+    (reply : Reply) : Type 0 where
   pub files : List (List ℕ)
   pub fetched : AreFetched holds command files
   pub answers : Answers command files now reply
 
 -- the cabinet tells each file
 abbrev pub AreTold : (List ℕ → Option (List ℕ)) → Command → List (List ℕ) → Type 0
-AreTold holds command files = AllZip (λ (wanted : NamedFile) (file : List ℕ). IsSomeAnd (holds wanted.name) (λ content. file ≡ take wanted.most content)) (files_of command) files
+AreTold holds command files =
+    AllZip
+    (λ (wanted : NamedFile) (file : List ℕ).
+    IsSomeAnd (holds wanted.name) (λ content. file ≡ take wanted.most content))
+    (files_of command) files

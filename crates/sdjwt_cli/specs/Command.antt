@@ -20,23 +20,38 @@ pub data Command : Type 0 where
 abbrev pub command_of : List (List ℕ) → Option Command
 command_of [] = None
 command_of (word ∷ []) = None
-command_of (word ∷ token ∷ []) = if bytes_eq word (codes "split") then Some (split token) else if bytes_eq word (codes "show") then Some (show token) else if bytes_eq word (codes "gen") then option_map gen (count_of token) else None
-command_of (word ∷ first ∷ second ∷ []) = if bytes_eq word (codes "verify") then Some (verify first second) else if bytes_eq word (codes "issue") then Some (issue first second) else if bytes_eq word (codes "present") then Some (present first second) else if bytes_eq word (codes "convert") then option_map (λ form. convert form second) (form_of first) else None
+command_of (word ∷ token ∷ []) =
+    if bytes_eq word (codes "split") then Some (split token)
+    else if bytes_eq word (codes "show") then Some (show token)
+    else if bytes_eq word (codes "gen") then option_map gen (count_of token) else None
+command_of (word ∷ first ∷ second ∷ []) =
+    if bytes_eq word (codes "verify") then Some (verify first second)
+    else if bytes_eq word (codes "issue") then Some (issue first second)
+    else if bytes_eq word (codes "present") then Some (present first second)
+    else if bytes_eq word (codes "convert")
+    then option_map (λ form. convert form second) (form_of first) else None
 command_of (word ∷ first ∷ second ∷ more ∷ rest) = None
 
--- a file: the word that names it, counted behind the command from 0, its name, and the most bytes that are read of it
+-- a file: the word that names it, counted behind the command from 0, its name,
+-- and the most bytes that are read of it
 pub record NamedFile : Type 0 where
   pub word : ℕ
   pub name : List ℕ
   pub most : ℕ
 
--- the files of a command, in the order in which they are read: one byte more than the limit tells a file that is too long, and of a
--- seed no more is read than is used
+-- the files of a command, in the order in which they are read: one byte more than the limit tells a
+-- file that is too long, and of a seed no more is read than is used
 abbrev pub files_of : Command → List NamedFile
 files_of (split token) = record { word = 0; name = token; most = file_max + 1 } ∷ []
 files_of (show token) = record { word = 0; name = token; most = file_max + 1 } ∷ []
-files_of (verify policy token) = record { word = 0; name = policy; most = file_max + 1 } ∷ record { word = 1; name = token; most = file_max + 1 } ∷ []
-files_of (issue order seed) = record { word = 0; name = order; most = file_max + 1 } ∷ record { word = 1; name = seed; most = seed_len } ∷ []
-files_of (present order token) = record { word = 0; name = order; most = file_max + 1 } ∷ record { word = 1; name = token; most = file_max + 1 } ∷ []
+files_of (verify policy token) =
+    record { word = 0; name = policy; most = file_max + 1 }
+    ∷ record { word = 1; name = token; most = file_max + 1 } ∷ []
+files_of (issue order seed) =
+    record { word = 0; name = order; most = file_max + 1 }
+    ∷ record { word = 1; name = seed; most = seed_len } ∷ []
+files_of (present order token) =
+    record { word = 0; name = order; most = file_max + 1 }
+    ∷ record { word = 1; name = token; most = file_max + 1 } ∷ []
 files_of (convert form token) = record { word = 1; name = token; most = file_max + 1 } ∷ []
 files_of (gen count) = []

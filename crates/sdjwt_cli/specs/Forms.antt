@@ -4,4 +4,7 @@ use Rattle.sdjwt_cli.specs.declared.form.Form.{Form}
 use Rattle.sdjwt_cli.specs.declared.form.Form.TheVariants.{Compact, Flat, General}
 
 abbrev pub form_of : List ℕ → Option Form
-form_of word = if bytes_eq word (codes "compact") then Some Compact else if bytes_eq word (codes "flat") then Some Flat else if bytes_eq word (codes "general") then Some General else None
+form_of word =
+    if bytes_eq word (codes "compact") then Some Compact
+    else if bytes_eq word (codes "flat") then Some Flat
+    else if bytes_eq word (codes "general") then Some General else None

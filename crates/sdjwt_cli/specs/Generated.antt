@@ -1,4 +1,5 @@
--- The order that `gen` issues, what it asks a holder for, and the policy under which it verifies; each of a number of members.
+-- The order that `gen` issues, what it asks a holder for, and the policy under
+-- which it verifies; each of a number of members.
 use Rattle.std.specs.Prelude.{ℕ, zero, suc, ◌%◌, ◌==◌, pos, List, [], ◌∷◌, ◌++◌, Option, None, Some, codes, bytes_eq, replicate, if◌then◌else◌}
 use Rattle.std.specs.Fmt.{decimal}
 use Rattle.sd_outside.specs.Limits.{seed_len, key_min, members_max}
@@ -18,7 +19,8 @@ use Rattle.verifier_core.specs.declared.policy.Policy.{Policy}
 -- the number up to the given one, and not 0, whose decimal digits the word is
 abbrev pub number_up_to : ℕ → List ℕ → Option ℕ
 number_up_to zero word = None
-number_up_to (suc n) word = if bytes_eq (decimal (suc n)) word then Some (suc n) else number_up_to n word
+number_up_to (suc n) word =
+    if bytes_eq (decimal (suc n)) word then Some (suc n) else number_up_to n word
 
 -- from 1 to the most members
 unfoldable pub count_of : List ℕ → Option ℕ
@@ -34,17 +36,23 @@ member_name i = codes "m" ++ decimal i
 
 -- {"a":i,"b":[i,i+1]}
 abbrev pub member_value : ℕ → Tree
-member_value i = object (member (codes "a") (number i) (member (codes "b") (array (element (number i) (element (number (suc i)) no_elements))) no_members))
+member_value i =
+    object
+    (member (codes "a") (number i)
+    (member (codes "b") (array (element (number i) (element (number (suc i)) no_elements)))
+    no_members))
 
 -- the members with the numbers below n
 abbrev pub members_below : ℕ → Members
 members_below zero = no_members
 members_below (suc i) = inserted (members_below i) (member_name i) (member_value i)
 
--- a path from each member whose number is below n and a multiple of k: to the member, and from there on
+-- a path from each member whose number is below n and a multiple of k: to the
+-- member, and from there on
 abbrev pub paths_below : ℕ → Path → ℕ → List Path
 paths_below k inside zero = []
-paths_below k inside (suc i) = paths_below k inside i ++ (if i % k == 0 then (member_name i ∷ inside) ∷ [] else [])
+paths_below k inside (suc i) =
+    paths_below k inside i ++ (if i % k == 0 then (member_name i ∷ inside) ∷ [] else [])
 
 abbrev pub to_a : Path
 to_a = codes "a" ∷ []

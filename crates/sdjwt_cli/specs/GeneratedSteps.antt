@@ -1,4 +1,5 @@
--- For private functions: how the members of what is generated are put in the order of their names, and the set of its key as JSON.
+-- For private functions: how the members of what is generated are put in the
+-- order of their names, and the set of its key as JSON.
 use Rattle.std.specs.Prelude.{◌≡◌, ℕ, zero, suc, ◌/◌, codes, replicate}
 use Rattle.sd_outside.specs.Limits.{key_min}
 use Rattle.b64url_text.specs.Base64url.{b64}
@@ -36,7 +37,10 @@ pub record BeginsWith (first i : ℕ) : Type 0 where
 -- ---- the key
 
 abbrev pub key_tree : Tree
-key_tree = object (member (codes "k") (leaf (text (b64 (replicate key_min 1)))) (member (codes "kty") (leaf (text (codes "oct"))) no_members))
+key_tree =
+    object
+    (member (codes "k") (leaf (text (b64 (replicate key_min 1))))
+    (member (codes "kty") (leaf (text (codes "oct"))) no_members))
 
 abbrev pub set_tree : Tree
 set_tree = object (member (codes "keys") (array (element key_tree no_elements)) no_members)

@@ -1,5 +1,5 @@
--- What the law against forgery says: a text that is accepted with the signed part of an issued token shows some of the
--- disclosures that were issued with it, and nothing else.
+-- What the law against forgery says: a text that is accepted with the signed part of an issued
+-- token shows some of the disclosures that were issued with it, and nothing else.
 use Rattle.std.specs.Prelude.{◌≡◌, ℕ, List, ◌++◌, map, eqb}
 use Rattle.std.specs.List.{AllZip, IsDistinct, list_any}
 use Rattle.b64url_text.specs.Base64url.{AreBytes}
@@ -22,17 +22,19 @@ use Rattle.issuer_core.specs.OrderRefusals.{AppliesToOrder}
 use Rattle.issuer_core.specs.Seed.{maker_of}
 use Rattle.issuer_core.specs.Written.{IsIssued}
 
--- the digests of a token: those of the disclosures that were issued with it, then those of its decoys
+-- the digests of a token: those of the disclosures that were issued with it,
+-- then those of its decoys
 abbrev pub token_digests : Maker → Order → List Text → List Text
 token_digests maker o issued = map (digest_of o.hash) issued ++ decoy_digests maker o
 
 -- none of the disclosures that are sent and were not issued has one of these digests
 abbrev pub NoneCollides : Maker → Order → List Text → List Text → Type 0
 NoneCollides maker o issued sent =
-    (disclosure : Text) → In disclosure sent → (In disclosure issued → ⊥) → In (digest_of o.hash disclosure) (token_digests maker o issued) → ⊥
+    (disclosure : Text) → In disclosure sent → (In disclosure issued → ⊥)
+    → In (digest_of o.hash disclosure) (token_digests maker o issued) → ⊥
 
--- the disclosures that are sent are issued ones in some order, none twice, with those of all hidden places above; and the
--- payload shows the marked claims without the places of the others
+-- the disclosures that are sent are issued ones in some order, none twice, with those of all hidden
+-- places above; and the payload shows the marked claims without the places of the others
 pub record IsChoiceOf (claims : Marked) (issued sent : List Text) (payload : Marked) : Type 0 where
   pub numbers : List ℕ
   pub none_twice : IsDistinct eqb numbers
@@ -40,7 +42,8 @@ pub record IsChoiceOf (claims : Marked) (issued sent : List Text) (payload : Mar
   pub all_above : IsClosed claims (λ i. list_any (eqb i) numbers)
   pub shows : strip payload ≡ strip (prune claims (λ i. list_any (eqb i) numbers))
 
--- of each text that is read as a token with the signed part of these, under every policy and at every moment
+-- of each text that is read as a token with the signed part of these, under
+-- every policy and at every moment
 abbrev pub ShowsIssued : Maker → Order → Parts → Type 0
 ShowsIssued maker o parts =
     (text : List ℕ) (token : Token) → IsToken text token → token.parts.signed ≡ parts.signed
@@ -48,9 +51,11 @@ ShowsIssued maker o parts =
     → NoneCollides maker o parts.disclosures token.parts.disclosures
     → IsChoiceOf (marked_claims o) parts.disclosures token.parts.disclosures marked
 
--- the parts are issued, by whoever makes these good signatures, for an order that nothing of 51 to 59 refuses, and whose
--- claims are a JSON value, each text and each name of which is a list of bytes, as texts are
+-- the parts are issued, by whoever makes these good signatures, for an order
+-- that nothing of 51 to 59 refuses, and whose claims are a JSON value, each
+-- text and each name of which is a list of bytes, as texts are
 abbrev pub NoForgery : Text → Meaning → Type 0
 NoForgery alg good =
     (seed : List ℕ) (o : Order) (parts : Parts)
-    → NoneApplies (AppliesToOrder o) → IsOrdered o.payload → EachText AreBytes o.payload → IsIssued (maker_of seed) o alg good parts → ShowsIssued (maker_of seed) o parts
+    → NoneApplies (AppliesToOrder o) → IsOrdered o.payload → EachText AreBytes o.payload
+    → IsIssued (maker_of seed) o alg good parts → ShowsIssued (maker_of seed) o parts

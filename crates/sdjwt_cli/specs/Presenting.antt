@@ -15,18 +15,23 @@ use Rattle.holder_core.specs.PresentFile.{IsPresentFile}
 use Rattle.cli_parts.specs.Lines.{line}
 use Rattle.selection_core.specs.Never.{never_rule}
 
--- the key that signs: that of the order, or one of zeros, which signs nothing, where no key binding token is asked for
+-- the key that signs: that of the order, or one of zeros, which signs nothing,
+-- where no key binding token is asked for
 abbrev pub signing_key : Option (List ℕ) → List ℕ
 signing_key None = key_block Alg.Hs256 (replicate 32 0)
 signing_key (Some key) = key
 
 -- what is presented of the token for what an order says
 abbrev pub IsPresentedFor : PresentFile → List ℕ → ℕ → Parts → Type 0
-IsPresentedFor said token_file now parts = IsPresented never_rule said.never token_file (asked_by said.ask) (codes "HS256") (IsGood (hs256_key (signing_key said.key))) now parts
+IsPresentedFor said token_file now parts =
+    IsPresented never_rule said.never token_file (asked_by said.ask) (codes "HS256")
+    (IsGood (hs256_key (signing_key said.key))) now parts
 
 -- why nothing is presented
 abbrev pub IsNotPresentedFor : PresentFile → List ℕ → ℕ → PresentError → Type 0
-IsNotPresentedFor said token_file now error = IsNotPresented never_rule said.never token_file (asked_by said.ask) (codes "HS256") (IsGood (hs256_key (signing_key said.key))) now error
+IsNotPresentedFor said token_file now error =
+    IsNotPresented never_rule said.never token_file (asked_by said.ask) (codes "HS256")
+    (IsGood (hs256_key (signing_key said.key))) now error
 
 -- the token is presented for the order, and this is the line of its compact text
 pub record Presents (order_file token_file : List ℕ) (now : ℕ) (answer : List ℕ) : Type 0 where

@@ -26,7 +26,11 @@ kind_text None = codes " element "
 kind_text (Some name) = codes " member " ++ (json_text (leaf (text name)) ++ codes " ")
 
 abbrev pub shown_line : ℕ → Given → Text
-shown_line i shown = line (codes "disclosure " ++ (decimal i ++ (codes " " ++ (shown.digest ++ (kind_text shown.name ++ json_text shown.value)))))
+shown_line i shown =
+    line
+    (codes "disclosure "
+    ++ (decimal i
+    ++ (codes " " ++ (shown.digest ++ (kind_text shown.name ++ json_text shown.value)))))
 
 -- numbered from i
 abbrev pub shown_lines : ℕ → List Given → Text
@@ -34,9 +38,13 @@ shown_lines i [] = []
 shown_lines i (shown ∷ more) = shown_line i shown ++ shown_lines (i + 1) more
 
 abbrev pub show_lines : Tree → Tree → List Given → Option JwtParts → Text
-show_lines header payload shown binding = line (codes "header " ++ json_text header) ++ (line (codes "payload " ++ json_text payload) ++ (shown_lines 0 shown ++ binding_line binding))
+show_lines header payload shown binding =
+    line (codes "header " ++ json_text header)
+    ++ (line (codes "payload " ++ json_text payload)
+    ++ (shown_lines 0 shown ++ binding_line binding))
 
--- the protected header is read: the text carries an object, and with the unprotected one beside it is not refused as unreadable
+-- the protected header is read: the text carries an object, and with the
+-- unprotected one beside it is not refused as unreadable
 pub record IsHead (protected : Text) (outer : Members) (header : Tree) : Type 0 where
   pub body : IsBody protected header
   pub readable : IsHeaderUnreadable protected outer → ⊥
@@ -46,7 +54,8 @@ pub record IsShownPayload (payload : Text) (tree : Tree) (hash : HashAlg) : Type
   pub body : IsBody payload tree
   pub hash_is : payload_hash tree ≡ Some hash
 
--- the file is a token in one of its serializations, and these are its lines. Of the headers the protected one is printed
+-- the file is a token in one of its serializations, and these are its lines. Of
+-- the headers the protected one is printed
 pub record Shows (file answer : List ℕ) : Type 0 where
   pub token : Token
   pub reads : IsToken file token
@@ -59,10 +68,20 @@ pub record Shows (file answer : List ℕ) : Type 0 where
   pub disclosures : AllZip (Gives hash) token.parts.disclosures shown
   pub lines : answer ≡ show_lines header payload shown token.parts.binding
 
--- the lowest condition that fails: of the form, then of the headers, of the payload, of its hash, and of the disclosures the first
+-- the lowest condition that fails: of the form, then of the headers, of the
+-- payload, of its hash, and of the disclosures the first
 pub data IsShowRefused (file : List ℕ) (fault : Fault) : Type 0 where
   form : IsTextRefused file fault → IsShowRefused file fault
-  header : (t : Token) → IsToken file t → IsHeaderUnreadable t.parts.signed.protected t.outer → fault ≡ unplaced Condition.HeaderUnreadable → IsShowRefused file fault
-  payload : (t : Token) (head : Tree) → IsToken file t → IsHead t.parts.signed.protected t.outer head → IsNoObject t.parts.signed.payload → fault ≡ unplaced Condition.PayloadUnreadable → IsShowRefused file fault
-  hash : (t : Token) (head body : Tree) → IsToken file t → IsHead t.parts.signed.protected t.outer head → IsBody t.parts.signed.payload body → payload_hash body ≡ None → fault ≡ unplaced Condition.HashUnknown → IsShowRefused file fault
-  disclosure : (t : Token) (head body : Tree) (alg : HashAlg) → IsToken file t → IsHead t.parts.signed.protected t.outer head → IsShownPayload t.parts.signed.payload body alg → (i : ℕ) → IsLeast (IsSuchAt IsNoDisclosure t.parts.disclosures) i → fault ≡ placed Condition.DisclosureUnreadable i → IsShowRefused file fault
+  header : (t : Token) → IsToken file t → IsHeaderUnreadable t.parts.signed.protected t.outer
+      → fault ≡ unplaced Condition.HeaderUnreadable → IsShowRefused file fault
+  payload : (t : Token) (head : Tree) → IsToken file t
+      → IsHead t.parts.signed.protected t.outer head → IsNoObject t.parts.signed.payload
+      → fault ≡ unplaced Condition.PayloadUnreadable → IsShowRefused file fault
+  hash : (t : Token) (head body : Tree) → IsToken file t
+      → IsHead t.parts.signed.protected t.outer head → IsBody t.parts.signed.payload body
+      → payload_hash body ≡ None → fault ≡ unplaced Condition.HashUnknown → IsShowRefused file fault
+  disclosure : (t : Token) (head body : Tree) (alg : HashAlg) → IsToken file t
+      → IsHead t.parts.signed.protected t.outer head
+      → IsShownPayload t.parts.signed.payload body alg → (i : ℕ)
+      → IsLeast (IsSuchAt IsNoDisclosure t.parts.disclosures) i
+      → fault ≡ placed Condition.DisclosureUnreadable i → IsShowRefused file fault

@@ -16,7 +16,8 @@ use Rattle.sdjwt_cli.specs.Show.{shown_line, shown_lines}
 
 -- what is shown of a disclosure's text and of what is read of it
 abbrev pub disclosure_shown : HashAlg → Text → Disclosed → Given
-disclosure_shown hash text d = record { digest = digest_of hash text; name = d.name; value = tree_of d.value }
+disclosure_shown hash text d =
+    record { digest = digest_of hash text; name = d.name; value = tree_of d.value }
 
 -- a line, or all lines, put behind a text
 pub record AddsLine (hash : HashAlg) (i : ℕ) (disclosure : Text) (old new : Text) : Type 0 where

@@ -1,4 +1,5 @@
--- The command `gen`: what it prints of the order of a number of members, and when it refuses the order.
+-- The command `gen`: what it prints of the order of a number of members, and
+-- when it refuses the order.
 use Rattle.std.specs.Prelude.{◌≡◌, ℕ, ◌+◌, List, [], ◌++◌, length, sum_by, codes}
 use Rattle.std.specs.Fmt.{decimal}
 use Rattle.std.specs.List.{count_by, range_with_len}
@@ -31,7 +32,9 @@ hidden_paths n = distinct_count same_path (generated n).hide
 
 -- how many of the numbers of hidden places are chosen, since they lead to a wanted place
 abbrev pub chosen_places : ℕ → ℕ
-chosen_places n = count_by (chosen (marked_claims (generated n)) (generated_ask n).want) (range_with_len 0 (hidden_of (generated n)))
+chosen_places n =
+    count_by (chosen (marked_claims (generated n)) (generated_ask n).want)
+    (range_with_len 0 (hidden_of (generated n)))
 
 -- how many digests are embedded in a payload and in the values of disclosures
 abbrev pub embedded_digests : Tree → List Given → ℕ
@@ -52,13 +55,16 @@ count_line word count = line (word ++ (codes " " ++ decimal count))
 
 abbrev pub summary_lines : ℕ → ℕ → ℕ → ℕ → List ℕ
 summary_lines hidden presented digests bytes =
-    count_line (codes "hidden") hidden ++ (count_line (codes "presented") presented ++ (count_line (codes "digests") digests ++ count_line (codes "bytes") bytes))
+    count_line (codes "hidden") hidden
+    ++ (count_line (codes "presented") presented
+    ++ (count_line (codes "digests") digests ++ count_line (codes "bytes") bytes))
 
--- a token is issued for the order, this is presented of it as it is asked, and it is accepted under the policy with the claims that
--- are wanted, all of it at the moment 0
+-- a token is issued for the order, this is presented of it as it is asked, and it is accepted under
+-- the policy with the claims that are wanted, all of it at the moment 0
 pub record IsShownThrough (n : ℕ) (issued presented : Parts) : Type 0 where
   pub is_issued : IsIssuedBy generated_seed (generated n) generated_key issued
-  pub is_presented : IsPresented never_rule [] (compact issued) (asked_by (generated_ask n)) (codes "HS256") (IsGood generated_key) 0 presented
+  pub is_presented : IsPresented never_rule [] (compact issued) (asked_by (generated_ask n))
+      (codes "HS256") (IsGood generated_key) 0 presented
   pub marked : Marked
   pub is_accepted : IsAccepted (compact presented) generated_policy 0 marked
   pub claims_are : strip marked ≡ shown_claims n
@@ -71,7 +77,9 @@ pub record Summarizes (n : ℕ) (answer : List ℕ) : Type 0 where
   pub payload : Tree
   pub given : List Given
   pub content : HasContent (alone presented) payload given
-  pub lines : answer ≡ summary_lines (hidden_paths n) (chosen_places n) (embedded_digests payload given) (shown_length n)
+  pub lines : answer
+      ≡ summary_lines (hidden_paths n) (chosen_places n) (embedded_digests payload given)
+      (shown_length n)
 
 -- the order is refused, as `issue` would refuse it
 abbrev pub DoesNotSummarize : ℕ → List ℕ → Type 0

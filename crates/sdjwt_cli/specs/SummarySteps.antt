@@ -17,7 +17,9 @@ use Rattle.sdjwt_cli.specs.PresentedValues.{IsAcceptedWith}
 
 -- what is presented of the issued parts
 abbrev pub IsPresentedOf : ℕ → Parts → Parts → Type 0
-IsPresentedOf n issued presented = IsPresented never_rule [] (compact issued) (asked_by (generated_ask n)) (codes "HS256") (IsGood generated_key) 0 presented
+IsPresentedOf n issued presented =
+    IsPresented never_rule [] (compact issued) (asked_by (generated_ask n)) (codes "HS256")
+    (IsGood generated_key) 0 presented
 
 -- the parts are accepted with some claims
 abbrev pub IsAcceptable : Parts → Type 0

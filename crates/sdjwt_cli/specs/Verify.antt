@@ -1,4 +1,5 @@
--- The command `verify`: what it prints of a token file under a policy file, and when it refuses one.
+-- The command `verify`: what it prints of a token file under a policy file, and
+-- when it refuses one.
 use Rattle.std.specs.Prelude.{◌≡◌, ℕ, List}
 use Rattle.claim_tree.specs.JsonText.{json_text}
 use Rattle.compact_form.specs.declared.fault.Fault.{Fault}
@@ -10,13 +11,15 @@ use Rattle.verifier_core.specs.declared.policy.Policy.{Policy}
 use Rattle.cli_parts.specs.Lines.{line, refusal}
 
 -- the token is accepted under the policy, and this is the line of its processed payload
-pub record VerifiesUnder (policy : Policy) (token_file : List ℕ) (now : ℕ) (answer : List ℕ) : Type 0 where
+pub record VerifiesUnder (policy : Policy) (token_file : List ℕ) (now : ℕ) (answer : List ℕ)
+    : Type 0 where
   pub marked : Marked
   pub accepted : IsAccepted token_file policy now marked
   pub line_is : answer ≡ line (json_text (strip marked))
 
 -- the lowest condition that fails under the policy, with its line
-pub record DoesNotVerifyUnder (policy : Policy) (token_file : List ℕ) (now : ℕ) (text : List ℕ) : Type 0 where
+pub record DoesNotVerifyUnder (policy : Policy) (token_file : List ℕ) (now : ℕ) (text : List ℕ)
+    : Type 0 where
   pub fault : Fault
   pub lowest : IsLowest (Fails token_file policy now) fault
   pub line_is : text ≡ refusal fault

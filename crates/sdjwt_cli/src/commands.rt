@@ -1,5 +1,5 @@
-//! The commands over the bytes of their files: each answers what [`run`](crate::run) writes to standard output, or the
-//! [`Stop`](crate::Stop) that tells why there is nothing.
+//! The commands over the bytes of their files: each answers what [`run`](crate::run) writes to
+//! standard output, or the [`Stop`](crate::Stop) that tells why there is nothing.
 
 pub use crate::convert::convert;
 pub use crate::issue::issue;

@@ -34,8 +34,10 @@ fn write_as(alloc: Global, form: Form, token: TokenText<'_>) -> Result<TextBox, 
 // The answer for a token that is read, of whatever file.
 fn convert_token(alloc: Global, form: Form, token: TokenText<'_>) -> Result<String, Stop>
     requires printable { IsPrintable token }
-    ensures converts { (file : List ℕ) → IsToken file token.entry → IfOk result (λ text. Converts form file (string_bytes text)) }
-    ensures refuses { (file : List ℕ) → IsToken file token.entry → IfErr result (λ stop. OnRefused stop (TellsFault (IsConvertRefused form file))) }
+    ensures converts { (file : List ℕ) → IsToken file token.entry
+        → IfOk result (λ text. Converts form file (string_bytes text)) }
+    ensures refuses { (file : List ℕ) → IsToken file token.entry
+        → IfErr result (λ stop. OnRefused stop (TellsFault (IsConvertRefused form file))) }
     ensures read { IfErr result (λ stop. OnUnread stop (λ _. ⊥)) }
     ensures readable { IfErr result (λ stop. OnUnreadable stop (λ _. ⊥)) }
 {
@@ -49,7 +51,8 @@ fn convert_token(alloc: Global, form: Form, token: TokenText<'_>) -> Result<Stri
 /// The answer to a token file: its token in a form, as a line.
 pub fn convert(alloc: Global, form: Form, file: &[u8]) -> Result<String, Stop>
     ensures converts { IfOk result (λ text. Converts form file.now (string_bytes text)) }
-    ensures refuses { IfErr result (λ stop. OnRefused stop (TellsFault (IsConvertRefused form file.now))) }
+    ensures refuses { IfErr result
+        (λ stop. OnRefused stop (TellsFault (IsConvertRefused form file.now))) }
     ensures read { IfErr result (λ stop. OnUnread stop (λ _. ⊥)) }
     ensures readable { IfErr result (λ stop. OnUnreadable stop (λ _. ⊥)) }
 {

@@ -1,7 +1,8 @@
 ghost use Rattle.std.specs.Prelude.{◌≡◌};
 ghost use Rattle.sdjwt_cli.specs.Forms.{form_of};
 
-/// A serialization of a token: the compact one (RFC 9901 section 4), or a JSON one, flattened or general (section 8).
+/// A serialization of a token: the compact one (RFC 9901 section 4), or a JSON
+/// one, flattened or general (section 8).
 #[derive(Clone, Copy, Debug)]
 pub enum Form {
     /// The compact serialization.

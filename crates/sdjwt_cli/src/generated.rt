@@ -87,14 +87,15 @@ fn put_member(alloc: Global, members: &mut TreeMap, i: u32) -> Result<(), NoMemo
     members.insert(member_name(alloc, i)?, member_value(alloc, i)?)
 }
 
-// Puts the member of a number, where it is below the count, and then those of the numbers that have more digits behind
-// it. So they come in the order of their names, each behind all others.
+// Puts the member of a number, where it is below the count, and then those of the numbers that have
+// more digits behind it. So they come in the order of their names, each behind all others.
 #[cycle(put)]
 fn put_from(alloc: Global, members: &mut TreeMap, first: u64, count: u32) -> Result<(), NoMemory>
     requires positive { 1 ≤ first }
     requires no_other { HasNoOther count members.old }
     ensures no_other { OnOk result (HasNoOther count members.new) }
-    ensures kept { OnOk result ((i : ℕ) → i < count → HasMember members.old i → HasMember members.new i) }
+    ensures kept { OnOk result
+        ((i : ℕ) → i < count → HasMember members.old i → HasMember members.new i) }
     ensures put { OnOk result ((i : ℕ) → i < count → BeginsWith first i → HasMember members.new i) }
 {
     if first >= u64::from(count) {

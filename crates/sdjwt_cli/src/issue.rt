@@ -27,7 +27,8 @@ pub(crate) fn issue_parts(
 ) -> Result<Parts, Stop>
     requires depth { depth (tree_of order.payload) ≤ json_depth_max }
     ensures issued { IfOk result (IsIssuedBy seed.now (order_said order) key) }
-    ensures refuses { IfErr result (λ stop. OnRefused stop (TellsRefusal seed.now (order_said order) key)) }
+    ensures refuses { IfErr result
+        (λ stop. OnRefused stop (TellsRefusal seed.now (order_said order) key)) }
     ensures readable { IfErr result (λ stop. OnUnreadable stop (λ _. ⊥)) }
     ensures read { IfErr result (λ stop. OnUnread stop (λ _. ⊥)) }
 {
@@ -41,9 +42,11 @@ pub(crate) fn issue_parts(
 // The answer for what an order file asks for, with the seed of a file.
 fn issue_for(alloc: Global, asked: IssueFile, seed: &[u8; SEED_LEN]) -> Result<String, Stop>
     requires depth { depth (tree_of asked.order.payload) ≤ json_depth_max }
-    ensures issues { (order_file seed_file : List ℕ) → IsOrderFile order_file asked → IsFirstChunk seed_file seed.now seed_len
+    ensures issues { (order_file seed_file : List ℕ) → IsOrderFile order_file asked
+        → IsFirstChunk seed_file seed.now seed_len
         → IfOk result (λ text. Issues order_file seed_file (string_bytes text)) }
-    ensures refuses { (order_file seed_file : List ℕ) → IsOrderFile order_file asked → IsFirstChunk seed_file seed.now seed_len
+    ensures refuses { (order_file seed_file : List ℕ) → IsOrderFile order_file asked
+        → IsFirstChunk seed_file seed.now seed_len
         → IfErr result (λ stop. OnRefused stop (DoesNotIssue order_file seed_file)) }
     ensures readable { IfErr result (λ stop. OnUnreadable stop (λ _. ⊥)) }
     ensures read { IfErr result (λ stop. OnUnread stop (λ _. ⊥)) }
@@ -56,8 +59,10 @@ fn issue_for(alloc: Global, asked: IssueFile, seed: &[u8; SEED_LEN]) -> Result<S
 /// The answer to an order file and a seed file.
 pub fn issue(alloc: Global, order_file: &[u8], seed_file: &[u8]) -> Result<String, Stop>
     ensures issues { IfOk result (λ text. Issues order_file.now seed_file.now (string_bytes text)) }
-    ensures refuses { IfErr result (λ stop. OnRefused stop (DoesNotIssue order_file.now seed_file.now)) }
-    ensures unreadable { IfErr result (λ stop. OnUnreadable stop (HasNoOrder order_file.now seed_file.now)) }
+    ensures refuses { IfErr result
+        (λ stop. OnRefused stop (DoesNotIssue order_file.now seed_file.now)) }
+    ensures unreadable { IfErr result
+        (λ stop. OnUnreadable stop (HasNoOrder order_file.now seed_file.now)) }
     ensures read { IfErr result (λ stop. OnUnread stop (λ _. ⊥)) }
 {
     let asked = readable(alloc, read_order(alloc, order_file))?;

@@ -1,8 +1,8 @@
 //! The program `sdjwt` as one call, over a cabinet of files and two sinks.
 //!
-//! [`run`] does all that the program does. Each command is a module of its own, which answers the bytes
-//! for standard output or the reason why there are none: [`commands`] has those calls, for a caller who has the
-//! bytes of the files.
+//! [`run`] does all that the program does. Each command is a module of its own, which answers the
+//! bytes for standard output or the reason why there are none: [`commands`] has those calls, for a
+//! caller who has the bytes of the files.
 #![tactic(auto)]
 
 mod command;

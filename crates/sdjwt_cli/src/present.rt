@@ -45,10 +45,14 @@ pub(crate) fn present_parts(
     key: &mut Hs256Key,
     now: u64,
 ) -> Result<Parts, PresentError>
-    ensures presented { IfOk result (IsPresented never_rule never token_file.now (asked_by ask.now) (codes "HS256") (IsGood (hs256_key key.old)) now) }
+    ensures presented { IfOk result
+        (IsPresented never_rule never token_file.now (asked_by ask.now) (codes "HS256")
+        (IsGood (hs256_key key.old)) now) }
     ensures words { IfOk result AreWords }
     ensures short { IfOk result (λ parts. length (compact parts) ≤ compact_max) }
-    ensures refused { IfErr result (IsNotPresented never_rule never token_file.now (asked_by ask.now) (codes "HS256") (IsGood (hs256_key key.old)) now) }
+    ensures refused { IfErr result
+        (IsNotPresented never_rule never token_file.now (asked_by ask.now) (codes "HS256")
+        (IsGood (hs256_key key.old)) now) }
     ensures signed { IfErr result (λ error. error ≢ PresentError.SignFailed) }
 {
     let never = NeverPlaces::of(never)?;
@@ -83,8 +87,10 @@ fn present_for(
     token_file: &[u8],
     now: u64,
 ) -> Result<String, Stop>
-    ensures presents { (file : List ℕ) → IsPresentFile file said → IfOk result (λ text. Presents file token_file.now now (string_bytes text)) }
-    ensures refuses { (file : List ℕ) → IsPresentFile file said → IfErr result (λ stop. OnRefused stop (DoesNotPresent file token_file.now now)) }
+    ensures presents { (file : List ℕ) → IsPresentFile file said
+        → IfOk result (λ text. Presents file token_file.now now (string_bytes text)) }
+    ensures refuses { (file : List ℕ) → IsPresentFile file said
+        → IfErr result (λ stop. OnRefused stop (DoesNotPresent file token_file.now now)) }
     ensures readable { IfErr result (λ stop. OnUnreadable stop (λ _. ⊥)) }
     ensures read { IfErr result (λ stop. OnUnread stop (λ _. ⊥)) }
 {
@@ -101,9 +107,12 @@ pub fn present(
     token_file: &[u8],
     now: u64,
 ) -> Result<String, Stop>
-    ensures presents { IfOk result (λ text. Presents order_file.now token_file.now now (string_bytes text)) }
-    ensures refuses { IfErr result (λ stop. OnRefused stop (DoesNotPresent order_file.now token_file.now now)) }
-    ensures unreadable { IfErr result (λ stop. OnUnreadable stop (TellsFileFault (IsPresentFileRefused order_file.now))) }
+    ensures presents { IfOk result
+        (λ text. Presents order_file.now token_file.now now (string_bytes text)) }
+    ensures refuses { IfErr result
+        (λ stop. OnRefused stop (DoesNotPresent order_file.now token_file.now now)) }
+    ensures unreadable { IfErr result
+        (λ stop. OnUnreadable stop (TellsFileFault (IsPresentFileRefused order_file.now))) }
     ensures read { IfErr result (λ stop. OnUnread stop (λ _. ⊥)) }
 {
     let said = readable(alloc, read_present(alloc, order_file))?;

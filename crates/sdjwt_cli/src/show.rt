@@ -31,7 +31,8 @@ fn read_head(
     outer: &TreeMap,
 ) -> Result<Tree, BodyError>
     ensures head { IfOk result (λ t. IsHead protected.now outer.now (tree_of t)) }
-    ensures unreadable { IsErrOf result BodyError.Unreadable → IsHeaderUnreadable protected.now outer.now }
+    ensures unreadable { IsErrOf result BodyError.Unreadable
+        → IsHeaderUnreadable protected.now outer.now }
 {
     let tree = read_body_with(alloc, reader, protected)?;
     match read_header_with(alloc, reader, protected, outer) {
@@ -64,7 +65,12 @@ fn push_line(
     kind: &str,
     value: &str,
 ) -> Result<(), NoMemory>
-    ensures { OnOk result (string_bytes text.new ≡ string_bytes text.old ++ line (codes "disclosure " ++ (decimal i ++ (codes " " ++ (digest.now ++ (kind.now ++ value.now)))))) }
+    ensures { OnOk result
+        (string_bytes text.new
+        ≡ string_bytes text.old
+        ++ line
+        (codes "disclosure "
+        ++ (decimal i ++ (codes " " ++ (digest.now ++ (kind.now ++ value.now)))))) }
 {
     writeln!(text, "disclosure {i} {digest}{kind}{value}")?;
     Ok(())
@@ -79,7 +85,9 @@ fn push_read(
     part: &str,
     read: &Disclosed,
 ) -> Result<(), NoMemory>
-    ensures { OnOk result (string_bytes text.new ≡ string_bytes text.old ++ shown_line i (disclosure_shown hash part.now read.now)) }
+    ensures { OnOk result
+        (string_bytes text.new
+        ≡ string_bytes text.old ++ shown_line i (disclosure_shown hash part.now read.now)) }
 {
     let digest = digest(alloc, hash, part)?;
     let kind = kind(alloc, &read.name)?;
@@ -96,7 +104,8 @@ fn push_shown(
     hash: HashAlg,
     part: &str,
 ) -> Result<(), DisclosureError>
-    ensures ok { OnOk result (AddsLine hash i part.now (string_bytes text.old) (string_bytes text.new)) }
+    ensures ok { OnOk result
+        (AddsLine hash i part.now (string_bytes text.old) (string_bytes text.new)) }
     ensures refused { IfErr result (IsDisclosureRefused part.now) }
 {
     let read = reader.read_disclosed(alloc, part)?;
@@ -113,8 +122,10 @@ fn push_all_shown(
     disclosures: Disclosures<'_>,
 ) -> Result<(), Stop>
     requires { length disclosures < 2 ^ 64 }
-    ensures ok { OnOk result (AddsLines hash disclosures.entry (string_bytes text.old) (string_bytes text.new)) }
-    ensures unread { IfErr result (λ stop. OnRefused stop (TellsFault (IsUnread disclosures.entry))) }
+    ensures ok { OnOk result
+        (AddsLines hash disclosures.entry (string_bytes text.old) (string_bytes text.new)) }
+    ensures unread { IfErr result
+        (λ stop. OnRefused stop (TellsFault (IsUnread disclosures.entry))) }
     ensures read { IfErr result (λ stop. OnUnread stop (λ _. ⊥)) }
     ensures readable { IfErr result (λ stop. OnUnreadable stop (λ _. ⊥)) }
 {
@@ -132,7 +143,8 @@ fn push_all_shown(
 }
 
 fn push_json(text: &mut String, word: &str, json: &str) -> Result<(), NoMemory>
-    ensures { OnOk result (string_bytes text.new ≡ string_bytes text.old ++ line (word.now ++ json.now)) }
+    ensures { OnOk result
+        (string_bytes text.new ≡ string_bytes text.old ++ line (word.now ++ json.now)) }
 {
     writeln!(text, "{word}{json}")?;
     Ok(())
@@ -140,7 +152,10 @@ fn push_json(text: &mut String, word: &str, json: &str) -> Result<(), NoMemory>
 
 // The lines of the header and of the payload. The text takes memory for `room` bytes at first.
 fn start(alloc: Global, head: &Tree, payload: &Tree, room: usize) -> Result<String, NoMemory>
-    ensures { IfOk result (λ text. string_bytes text ≡ line (codes "header " ++ json_text (tree_of head.now)) ++ line (codes "payload " ++ json_text (tree_of payload.now))) }
+    ensures { IfOk result
+        (λ text. string_bytes text
+        ≡ line (codes "header " ++ json_text (tree_of head.now))
+        ++ line (codes "payload " ++ json_text (tree_of payload.now))) }
 {
     let mut text = String::with_capacity(alloc, room)?;
     push_json(&mut text, "header ", write(alloc, head)?.as_str())?;

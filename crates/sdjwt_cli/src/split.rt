@@ -17,7 +17,8 @@ use sd_outside::NoMemory;
 use std::alloc::Global;
 
 fn push_signed(text: &mut String, jwt: JwtView<'_>) -> Result<(), NoMemory>
-    ensures { OnOk result (string_bytes text.new ≡ string_bytes text.old ++ signed_lines (jwt_of jwt.entry)) }
+    ensures { OnOk result
+        (string_bytes text.new ≡ string_bytes text.old ++ signed_lines (jwt_of jwt.entry)) }
 {
     let JwtView {
         protected,
@@ -31,7 +32,10 @@ fn push_signed(text: &mut String, jwt: JwtView<'_>) -> Result<(), NoMemory>
 }
 
 fn push_disclosure(text: &mut String, i: usize, disclosure: &str) -> Result<(), NoMemory>
-    ensures { OnOk result (string_bytes text.new ≡ string_bytes text.old ++ line (codes "disclosure " ++ (decimal i ++ (codes " " ++ disclosure.now)))) }
+    ensures { OnOk result
+        (string_bytes text.new
+        ≡ string_bytes text.old
+        ++ line (codes "disclosure " ++ (decimal i ++ (codes " " ++ disclosure.now)))) }
 {
     writeln!(text, "disclosure {i} {disclosure}")?;
     Ok(())
@@ -39,7 +43,8 @@ fn push_disclosure(text: &mut String, i: usize, disclosure: &str) -> Result<(), 
 
 fn push_disclosures(text: &mut String, disclosures: Disclosures<'_>) -> Result<(), NoMemory>
     requires { length disclosures < 2 ^ 64 }
-    ensures { OnOk result (string_bytes text.new ≡ string_bytes text.old ++ disclosure_lines 0 disclosures.entry) }
+    ensures { OnOk result
+        (string_bytes text.new ≡ string_bytes text.old ++ disclosure_lines 0 disclosures.entry) }
 {
     for (i, disclosure) in disclosures.enumerate() {
         push_disclosure(text, i, disclosure)?;
@@ -48,7 +53,9 @@ fn push_disclosures(text: &mut String, disclosures: Disclosures<'_>) -> Result<(
 }
 
 pub(crate) fn push_binding(text: &mut String, binding: Option<JwtView<'_>>) -> Result<(), NoMemory>
-    ensures { OnOk result (string_bytes text.new ≡ string_bytes text.old ++ binding_line (option_map jwt_of binding.entry)) }
+    ensures { OnOk result
+        (string_bytes text.new
+        ≡ string_bytes text.old ++ binding_line (option_map jwt_of binding.entry)) }
 {
     if let Some(jwt) = binding {
         let JwtView {

@@ -1,5 +1,5 @@
-// The command `gen`: an order of a number of members is issued, presented and verified, and what there is of it
-// counted.
+// The command `gen`: an order of a number of members is issued, presented and
+// verified, and what there is of it counted.
 ghost use Rattle.std.specs.Prelude.{◌≡◌, ◌++◌, IfOk, IfErr, OnOk, string_bytes};
 ghost use Rattle.compact_form.specs.Compact.{AreWords};
 ghost use Rattle.sdjwt_cli.specs.Generated.{generated, generated_seed, generated_key};
@@ -72,7 +72,8 @@ fn verify_presented(alloc: Global, presented: &Parts) -> Result<(Tree, u64), NoM
 
 // The line of one count.
 fn push_count(text: &mut String, word: &str, count: u64) -> Result<(), NoMemory>
-    ensures { OnOk result (string_bytes text.new ≡ string_bytes text.old ++ count_line word.now count) }
+    ensures { OnOk result
+        (string_bytes text.new ≡ string_bytes text.old ++ count_line word.now count) }
 {
     writeln!(text, "{word} {count}")?;
     Ok(())
@@ -86,7 +87,8 @@ fn summary_text(
     digests: u64,
     bytes: u64,
 ) -> Result<String, NoMemory>
-    ensures { IfOk result (λ text. string_bytes text ≡ summary_lines hidden presented digests bytes) }
+    ensures { IfOk result
+        (λ text. string_bytes text ≡ summary_lines hidden presented digests bytes) }
 {
     let mut text = String::new(alloc);
     push_count(&mut text, "hidden", hidden)?;

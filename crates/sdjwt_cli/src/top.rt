@@ -27,8 +27,10 @@ fn answer<C: Cabinet>(
     now: u64,
 ) -> Result<String, Stop>
     ensures replies { IsReply (IsAnswered (C.holds cab.old) (meant_by command.entry) now) result }
-    ensures misses { IfErr result (λ stop. OnUnread stop (λ word. Misses (meant_by command.entry) word (C.missed cab.new))) }
-    ensures rose { IfErr result (λ stop. OnUnread stop (λ word. Rose (C.faults cab.old) (C.faults cab.new))) }
+    ensures misses { IfErr result
+        (λ stop. OnUnread stop (λ word. Misses (meant_by command.entry) word (C.missed cab.new))) }
+    ensures rose { IfErr result
+        (λ stop. OnUnread stop (λ word. Rose (C.faults cab.old) (C.faults cab.new))) }
     ensures held { (name : List ℕ) → C.holds cab.new name ≡ C.holds cab.old name }
     ensures later { C.faults cab.old ≤ C.faults cab.new }
 {
@@ -66,9 +68,9 @@ fn answer<C: Cabinet>(
 
 /// Runs the command that the words name, over the files of the cabinet.
 ///
-/// `words` are the words behind the program's name, and `now` is the moment in seconds since 1970. The whole
-/// answer goes to `out` in one piece, and the line of any other status to `err`. What each status says of the
-/// outside before and after is `Ends`, by cases.
+/// `words` are the words behind the program's name, and `now` is the moment in seconds since 1970.
+/// The whole answer goes to `out` in one piece, and the line of any other status to `err`. What
+/// each status says of the outside before and after is `Ends`, by cases.
 pub fn run<C: Cabinet, O: Sink, E: Sink>(
     alloc: Global,
     words: &[String],
@@ -77,8 +79,11 @@ pub fn run<C: Cabinet, O: Sink, E: Sink>(
     out: &mut O,
     err: &mut E,
 ) -> Status
-    ensures ends { Ends (map string_bytes words.now) (outside C.Cabinet O.Sink E.Sink cab.old out.old err.old) (outside C.Cabinet O.Sink E.Sink cab.new out.new err.new) now result }
-    ensures keeps { RunKeeps (outside C.Cabinet O.Sink E.Sink cab.old out.old err.old) (outside C.Cabinet O.Sink E.Sink cab.new out.new err.new) }
+    ensures ends { Ends (map string_bytes words.now)
+        (outside C.Cabinet O.Sink E.Sink cab.old out.old err.old)
+        (outside C.Cabinet O.Sink E.Sink cab.new out.new err.new) now result }
+    ensures keeps { RunKeeps (outside C.Cabinet O.Sink E.Sink cab.old out.old err.old)
+        (outside C.Cabinet O.Sink E.Sink cab.new out.new err.new) }
 {
     let Some(command) = Command::of(words) else {
         return tell(err, "usage\n", Status::Usage);

@@ -29,8 +29,10 @@ pub fn verify_under(
     token_file: &[u8],
     now: u64,
 ) -> Result<String, Stop>
-    ensures verifies { IfOk result (λ text. VerifiesUnder policy.now token_file.now now (string_bytes text)) }
-    ensures refuses { IfErr result (λ stop. OnRefused stop (DoesNotVerifyUnder policy.now token_file.now now)) }
+    ensures verifies { IfOk result
+        (λ text. VerifiesUnder policy.now token_file.now now (string_bytes text)) }
+    ensures refuses { IfErr result
+        (λ stop. OnRefused stop (DoesNotVerifyUnder policy.now token_file.now now)) }
     ensures readable { IfErr result (λ stop. OnUnreadable stop (λ _. ⊥)) }
     ensures read { IfErr result (λ stop. OnUnread stop (λ _. ⊥)) }
 {
@@ -48,9 +50,12 @@ pub fn verify(
     token_file: &[u8],
     now: u64,
 ) -> Result<String, Stop>
-    ensures verifies { IfOk result (λ text. Verifies policy_file.now token_file.now now (string_bytes text)) }
-    ensures refuses { IfErr result (λ stop. OnRefused stop (DoesNotVerify policy_file.now token_file.now now)) }
-    ensures unreadable { IfErr result (λ stop. OnUnreadable stop (TellsFileFault (IsPolicyFileRefused policy_file.now))) }
+    ensures verifies { IfOk result
+        (λ text. Verifies policy_file.now token_file.now now (string_bytes text)) }
+    ensures refuses { IfErr result
+        (λ stop. OnRefused stop (DoesNotVerify policy_file.now token_file.now now)) }
+    ensures unreadable { IfErr result
+        (λ stop. OnUnreadable stop (TellsFileFault (IsPolicyFileRefused policy_file.now))) }
     ensures read { IfErr result (λ stop. OnUnread stop (λ _. ⊥)) }
 {
     let policy = policy_of(alloc, policy_file)?;

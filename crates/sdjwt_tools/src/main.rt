@@ -1,5 +1,5 @@
-//! The program `sdjwt_tools`: it takes its words, the files, the clock and the standard streams from the runtime, and
-//! runs one tool over them.
+//! The program `sdjwt_tools`: it takes its words, the files, the clock and the standard streams
+//! from the runtime, and runs one tool over them.
 #![tactic(auto)]
 
 use cli_parts::{Ending, exit_code, seconds, words};

@@ -24,12 +24,20 @@ abbrev pub is_below : ℕ → Option ℕ → Bool
 is_below i None = true
 is_below i (Some j) = ltb i j
 
--- from the least mark that was refused before to that after: of the marks of the set that were seen, the rule allowed each one below it
-pub record IsAskedOnWalk {F : Type 0} (answers : RuleAnswers F) (rule : F) (s : ℕ → Bool) (seen : List SeenMark) (before after : Option ℕ) : Type 0 where
-  pub allowed : (x : SeenMark) → In x seen → s x.0 ≡ true → is_below x.0 after ≡ true → Allows answers rule x.1 true
+-- from the least mark that was refused before to that after: of the marks of the set that were
+-- seen, the rule allowed each one below it
+pub record IsAskedOnWalk {F : Type 0} (answers : RuleAnswers F) (rule : F) (s : ℕ → Bool)
+    (seen : List SeenMark) (before after : Option ℕ) : Type 0 where
+  pub allowed : (x : SeenMark) → In x seen → s x.0 ≡ true → is_below x.0 after ≡ true
+      → Allows answers rule x.1 true
   pub falls : (i : ℕ) → is_below i after ≡ true → is_below i before ≡ true
-  pub refused : (after ≡ before) ⊎ ((x : SeenMark) × In x seen × (s x.0 ≡ true) × (after ≡ Some x.0) × Allows answers rule x.1 false)
+  pub refused : (after ≡ before)
+      ⊎ ((x : SeenMark) × In x seen × (s x.0 ≡ true) × (after ≡ Some x.0)
+      × Allows answers rule x.1 false)
 
 -- so of a walk on which these marks were seen
-abbrev pub AsksOnWalk : {F : Type 0} → RuleAnswers F → Asking F → List SeenMark → Walk → Walk → Type 0
-AsksOnWalk answers asking seen before after = IsAskedOnWalk answers asking.consent.now (has asking.chosen.now) seen before.refused after.refused
+abbrev pub AsksOnWalk : {F : Type 0} → RuleAnswers F → Asking F → List SeenMark → Walk → Walk
+    → Type 0
+AsksOnWalk answers asking seen before after =
+    IsAskedOnWalk answers asking.consent.now (has asking.chosen.now) seen before.refused
+    after.refused

@@ -18,11 +18,12 @@ use marked_tree::{ChosenSet, Marked, MarkedList, MarkedMap};
 use sd_outside::NoMemory;
 use std::alloc::Global;
 
-/// Asks the rule for the place of each chosen mark, and refuses where it refuses one, with the least such mark. What
-/// has no mark, or stands inside a chosen place without one, is not asked for.
+/// Asks the rule for the place of each chosen mark, and refuses where it
+/// refuses one, with the least such mark. What has no mark, or stands inside a
+/// chosen place without one, is not asked for.
 ///
-/// The tree is walked once, and the rule is asked on the way; a mark above one that is already refused is not asked
-/// for.
+/// The tree is walked once, and the rule is asked on the way; a mark above one
+/// that is already refused is not asked for.
 pub fn allow<F: Fn(&Path) -> bool>(
     alloc: Global,
     consent: &Consent<F>,
@@ -32,8 +33,10 @@ pub fn allow<F: Fn(&Path) -> bool>(
     requires callable { F.IsAlwaysCallable consent.now }
     requires depth { depth (strip (marked_of tree.now)) ≤ json_depth_max }
     requires once { StandOnce (marked_of tree.now) (has chosen.now) }
-    ensures allowed { IfOk result (λ _. AllAllowed F.Fn consent.now (marked_of tree.now) (has chosen.now)) }
-    ensures refused { IfErr result (IsAllowRefused F.Fn consent.now (marked_of tree.now) (has chosen.now)) }
+    ensures allowed { IfOk result
+        (λ _. AllAllowed F.Fn consent.now (marked_of tree.now) (has chosen.now)) }
+    ensures refused { IfErr result
+        (IsAllowRefused F.Fn consent.now (marked_of tree.now) (has chosen.now)) }
 {
     let asking = Asking { consent, chosen };
     let mut walk = Walk {
@@ -67,7 +70,9 @@ impl<'a, F: Fn(&Path) -> bool> Asking<'a, F> {
     fn ask_inside(&self, tree: &Marked, walk: &mut Walk) -> Result<(), NoMemory>
         requires callable { F.IsAlwaysCallable self.now.consent.now }
         requires depth { depth (strip (marked_of tree.now)) ≤ json_depth_max }
-        ensures asked { OnOk result (AsksOnWalk F.Fn self.now (seen_from walk.old.at (spots (marked_of tree.now))) walk.old walk.new) }
+        ensures asked { OnOk result
+            (AsksOnWalk F.Fn self.now (seen_from walk.old.at (spots (marked_of tree.now))) walk.old
+            walk.new) }
         ensures at { OnOk result (walk.new.at ≡ walk.old.at) }
     {
         match tree {
@@ -82,7 +87,9 @@ impl<'a, F: Fn(&Path) -> bool> Asking<'a, F> {
     fn ask_elements(&self, list: &MarkedList, walk: &mut Walk) -> Result<(), NoMemory>
         requires callable { F.IsAlwaysCallable self.now.consent.now }
         requires depth { elements_depth (strip_elements list.now) ≤ 126 }
-        ensures asked { OnOk result (AsksOnWalk F.Fn self.now (seen_from walk.old.at (elements_spots 0 list.now)) walk.old walk.new) }
+        ensures asked { OnOk result
+            (AsksOnWalk F.Fn self.now (seen_from walk.old.at (elements_spots 0 list.now)) walk.old
+            walk.new) }
         ensures at { OnOk result (walk.new.at ≡ walk.old.at) }
     {
         for (i, element) in list.elements().iter().enumerate() {
@@ -98,7 +105,9 @@ impl<'a, F: Fn(&Path) -> bool> Asking<'a, F> {
     fn ask_members(&self, map: &MarkedMap, walk: &mut Walk) -> Result<(), NoMemory>
         requires callable { F.IsAlwaysCallable self.now.consent.now }
         requires depth { members_depth (strip_members map.now) ≤ 126 }
-        ensures asked { OnOk result (AsksOnWalk F.Fn self.now (seen_from walk.old.at (members_spots map.now)) walk.old walk.new) }
+        ensures asked { OnOk result
+            (AsksOnWalk F.Fn self.now (seen_from walk.old.at (members_spots map.now)) walk.old
+            walk.new) }
         ensures at { OnOk result (walk.new.at ≡ walk.old.at) }
     {
         for (name, mark, tree) in map.members() {
@@ -107,7 +116,8 @@ impl<'a, F: Fn(&Path) -> bool> Asking<'a, F> {
         Ok(())
     }
 
-    // Asks for a node that stands one step further, and for the places inside it, where one of them may be chosen.
+    // Asks for a node that stands one step further, and for the places inside
+    // it, where one of them may be chosen.
     #[cycle(ask)]
     fn ask_node(
         &self,
@@ -118,7 +128,11 @@ impl<'a, F: Fn(&Path) -> bool> Asking<'a, F> {
     ) -> Result<(), NoMemory>
         requires callable { F.IsAlwaysCallable self.now.consent.now }
         requires depth { depth (strip (marked_of tree.now)) ≤ json_depth_max }
-        ensures asked { OnOk result (AsksOnWalk F.Fn self.now (own_seen mark (walk.old.at ++ step.now ∷ []) ++ seen_from (walk.old.at ++ step.now ∷ []) (spots (marked_of tree.now))) walk.old walk.new) }
+        ensures asked { OnOk result
+            (AsksOnWalk F.Fn self.now
+            (own_seen mark (walk.old.at ++ step.now ∷ [])
+            ++ seen_from (walk.old.at ++ step.now ∷ []) (spots (marked_of tree.now)))
+            walk.old walk.new) }
         ensures at { OnOk result (walk.new.at ≡ walk.old.at) }
     {
         if !may_hold(mark, tree, self.chosen) {

@@ -16,13 +16,16 @@ use marked_tree::{ChosenSet, Marked, stepped};
 use sd_outside::NoMemory;
 use std::alloc::Global;
 
-/// The marks on the way to the wanted paths: those of the places that lead to one of them. Nothing inside a wanted
-/// place is chosen for it.
+/// The marks on the way to the wanted paths: those of the places that lead to one of them. Nothing
+/// inside a wanted place is chosen for it.
 ///
-/// Each path is followed from the root, by search in each object, so the cost is that of the paths and not of the tree.
+/// Each path is followed from the root, by search in each object, so the cost
+/// is that of the paths and not of the tree.
 pub fn choose(alloc: Global, tree: &Marked, wanted: &PathList) -> Result<ChosenSet, ChooseError>
-    ensures chosen { IfOk result (λ marks. (i : ℕ) → has marks i ≡ chosen (marked_of tree.now) wanted.now i) }
-    ensures least { IsUnmixed (marked_of tree.now) → IfOk result (λ marks. IsLeastChoice (marked_of tree.now) wanted.now (has marks)) }
+    ensures chosen { IfOk result
+        (λ marks. (i : ℕ) → has marks i ≡ chosen (marked_of tree.now) wanted.now i) }
+    ensures least { IsUnmixed (marked_of tree.now)
+        → IfOk result (λ marks. IsLeastChoice (marked_of tree.now) wanted.now (has marks)) }
     ensures there { IfOk result (λ _. AtNone (IsMissing (strip (marked_of tree.now)) wanted.now)) }
     ensures refused { IfErr result (IsChooseRefused (strip (marked_of tree.now)) wanted.now) }
 {
@@ -37,7 +40,8 @@ pub fn choose(alloc: Global, tree: &Marked, wanted: &PathList) -> Result<ChosenS
 
 // Adds a mark, unless it stands at this place. It may stand at another.
 fn add_mark(marks: &mut Vec<u32>, at: usize, mark: u32) -> Result<(), NoMemory>
-    ensures { OnOk result ((i : ℕ) → has marks.new.items i ≡ (eqb i mark || has marks.old.items i)) }
+    ensures { OnOk result
+        ((i : ℕ) → has marks.new.items i ≡ (eqb i mark || has marks.old.items i)) }
 {
     if marks.get(at) == Some(&mark) {
         return Ok(());
@@ -46,11 +50,15 @@ fn add_mark(marks: &mut Vec<u32>, at: usize, mark: u32) -> Result<(), NoMemory>
     Ok(())
 }
 
-// Adds the marks on the way to the path. False where it leads nowhere. Most ways begin as an earlier one does, whose
-// marks are there, each at the number of its step where each step has one.
+// Adds the marks on the way to the path. False where it leads nowhere. Most ways begin as an
+// earlier one does, whose marks are there, each at the number of its step where each step has one.
 fn add_way(tree: &Marked, path: &Path, marks: &mut Vec<u32>) -> Result<bool, NoMemory>
-    ensures there { IfOk result (λ there. there ≡ is_some (tree_at (strip (marked_of tree.now)) path.now)) }
-    ensures marks { IfOk result (λ there. there ≡ true → (i : ℕ) → has marks.new.items i ≡ (has marks.old.items i || is_on_way (marked_of tree.now) path.now i)) }
+    ensures there { IfOk result
+        (λ there. there ≡ is_some (tree_at (strip (marked_of tree.now)) path.now)) }
+    ensures marks { IfOk result
+        (λ there. there ≡ true → (i : ℕ)
+        → has marks.new.items i
+        ≡ (has marks.old.items i || is_on_way (marked_of tree.now) path.now i)) }
 {
     let mut inside = tree;
     for (at, step) in path.steps().enumerate() {

@@ -4,8 +4,8 @@ ghost use Rattle.selection_core.specs.Consent.{Allows};
 use claim_tree::Path;
 use std::marker::Model;
 
-/// A rule that says which places may be shown, and that may be asked for every place. Contracts see the rule, of
-/// which `Allows` tells what it may answer.
+/// A rule that says which places may be shown, and that may be asked for every place. Contracts see
+/// the rule, of which `Allows` tells what it may answer.
 #[derive(Drop)]
 pub struct Consent<F: Fn(&Path) -> bool> {
     rule: F,

@@ -8,10 +8,11 @@ use marked_tree::compare_paths;
 use sd_outside::NoMemory;
 use std::marker::Model;
 
-/// The places that a holder never shows, with all that is inside them. Contracts see paths by which the same places may
-/// be shown as by those that were given.
+/// The places that a holder never shows, with all that is inside them. Contracts see paths by which
+/// the same places may be shown as by those that were given.
 ///
-/// The paths are sorted once, and those inside another are dropped, so that a place is judged by one search by halves.
+/// The paths are sorted once, and those inside another are dropped, so that a
+/// place is judged by one search by halves.
 #[derive(Debug, Drop)]
 pub struct NeverPlaces {
     outermost: Vec<Path>,
@@ -32,7 +33,8 @@ impl Model for NeverPlaces {
 impl NeverPlaces {
     /// The places of these paths, whose order means nothing.
     pub fn of(paths: PathList) -> Result<NeverPlaces, NoMemory>
-        ensures same { IfOk result (λ never. (at : Steps) → MayBeShown never at ↔ MayBeShown paths at) }
+        ensures same { IfOk result
+            (λ never. (at : Steps) → MayBeShown never at ↔ MayBeShown paths at) }
     {
         let mut outermost = paths.into_elements();
         outermost.sort_by(|one, other| compare_paths(one, other))?;
@@ -40,8 +42,8 @@ impl NeverPlaces {
         Ok(NeverPlaces { outermost })
     }
 
-    /// Whether no path leads to the place: the rule of a holder who says which places are never shown. It takes no
-    /// memory.
+    /// Whether no path leads to the place: the rule of a holder who says which
+    /// places are never shown. It takes no memory.
     pub fn may_be_shown(&self, place: &Path) -> bool
         ensures { Judges self.now place.now result }
     {

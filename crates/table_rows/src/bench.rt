@@ -66,8 +66,8 @@ fn text_of(bytes: &[u8]) -> Result<&str, Trouble> {
     std::str::from_utf8(bytes).map_err(|_| Trouble::Unread("what was written is not UTF-8"))
 }
 
-// What a run left, as a row says it: the number of the status, what stands on standard output, and what stands on
-// standard error.
+// What a run left, as a row says it: the number of the status, what stands on
+// standard output, and what stands on standard error.
 fn outcome(alloc: Global, status: u8, out: &str, err: &str) -> Result<String, Trouble> {
     let mut text = format!(in alloc; "{status}")?;
     if !out.is_empty() {

@@ -67,7 +67,8 @@ fn counted(short: &str, sign: char) -> Option<(usize, &str)> {
     Some((count.parse().ok()?, rest))
 }
 
-// The text for which this stands: so many pieces, growing texts, the front of a text, or the text of a name.
+// The text for which this stands: so many pieces, growing texts, the front of a
+// text, or the text of a name.
 fn meant(alloc: Global, names: &Names, short: &str) -> Result<String, Trouble> {
     if let Some((count, piece)) = counted(short, '*') {
         return repeated(alloc, count, piece);
@@ -97,7 +98,8 @@ fn last_meant(alloc: Global, names: &Names, text: &str) -> Result<String, Troubl
     Ok(whole)
 }
 
-/// The text with each bracket written out, from the last to the first, so that one may stand inside another.
+/// The text with each bracket written out, from the last to the first, so that
+/// one may stand inside another.
 pub(crate) fn spelled(alloc: Global, names: &Names, text: &str) -> Result<String, Trouble> {
     let mut whole = String::from_str(alloc, text)?;
     for _ in text.split('<').skip(1) {

@@ -152,8 +152,8 @@ impl<'a> Table<'a> {
     }
 }
 
-// What is wrong with the lines of a table, each with the name of its file and its number. The names that they define
-// are added.
+// What is wrong with the lines of a table, each with the name of its file and
+// its number. The names that they define are added.
 fn read(alloc: Global, names: &mut Names, file: &str, text: &str) -> Result<Report, NoMemory> {
     let mut told = String::new(alloc);
     let mut count = Count {
@@ -171,7 +171,8 @@ fn read(alloc: Global, names: &mut Names, file: &str, text: &str) -> Result<Repo
     Ok(Report { told, count })
 }
 
-/// Runs every row of the table that the text of a file is. The names of another table, `shared`, hold in it.
+/// Runs every row of the table that the text of a file is. The names of another
+/// table, `shared`, hold in it.
 ///
 /// What is wrong with the lines of `shared` is not told: run it as a table for that.
 pub fn run_table(alloc: Global, shared: &str, file: &str, text: &str) -> Result<Report, NoMemory> {

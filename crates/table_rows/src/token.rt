@@ -135,8 +135,8 @@ fn listed(alloc: Global, disclosures: &str) -> Result<String, Trouble> {
     Ok(list)
 }
 
-// The header of a flattened token: the disclosures, the key binding token where there is one, and the members of this
-// object.
+// The header of a flattened token: the disclosures, the key binding token where
+// there is one, and the members of this object.
 fn header_of(
     alloc: Global,
     disclosures: &str,

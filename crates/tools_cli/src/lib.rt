@@ -1,4 +1,5 @@
-//! The top call of the program `sdjwt_tools`: [`run_tools`] runs the tool that the first word names.
+//! The top call of the program `sdjwt_tools`: [`run_tools`] runs the tool that
+//! the first word names.
 #![tactic(auto)]
 
 mod tools;

@@ -23,8 +23,9 @@ fn names_tool(words: &[String], name: &str) -> bool
     word.as_str() == name
 }
 
-/// Runs the tool that the first word names, over the files of the cabinet and what the source gives: `audit` and
-/// `wallet`, which take nothing from the source, or `feed`. All other words are none.
+/// Runs the tool that the first word names, over the files of the cabinet and
+/// what the source gives: `audit` and `wallet`, which take nothing from the
+/// source, or `feed`. All other words are none.
 pub fn run_tools<C: Cabinet, R: Source, O: Sink, E: Sink>(
     alloc: Global,
     words: &[String],
@@ -35,23 +36,28 @@ pub fn run_tools<C: Cabinet, R: Source, O: Sink, E: Sink>(
     err: &mut E,
 ) -> Status
     requires { R.taken src.old ≤ 2 ^ 63 }
-    ensures audit { Names (codes "audit") (map string_bytes words.now) → AuditEnds (map string_bytes words.now)
+    ensures audit { Names (codes "audit") (map string_bytes words.now)
+        → AuditEnds (map string_bytes words.now)
         (outside C.Cabinet O.Sink E.Sink cab.old out.old err.old)
-        (outside C.Cabinet O.Sink E.Sink cab.new out.new err.new)
-        result }
-    ensures wallet { Names (codes "wallet") (map string_bytes words.now) → WalletEnds (map string_bytes words.now)
+        (outside C.Cabinet O.Sink E.Sink cab.new out.new err.new) result }
+    ensures wallet { Names (codes "wallet") (map string_bytes words.now)
+        → WalletEnds (map string_bytes words.now)
         (outside C.Cabinet O.Sink E.Sink cab.old out.old err.old)
-        (outside C.Cabinet O.Sink E.Sink cab.new out.new err.new)
-        result }
-    ensures untaken { Names (codes "audit") (map string_bytes words.now) ⊎ Names (codes "wallet") (map string_bytes words.now) → src.new ≡ src.old }
-    ensures ends { (Names (codes "audit") (map string_bytes words.now) → ⊥) → (Names (codes "wallet") (map string_bytes words.now) → ⊥) → FeedEnds (map string_bytes words.now)
-        (feed_outside (outside C.Cabinet O.Sink E.Sink cab.old out.old err.old) (input R.Source src.old))
-        (feed_outside (outside C.Cabinet O.Sink E.Sink cab.new out.new err.new) (input R.Source src.new))
-        now
-        result }
+        (outside C.Cabinet O.Sink E.Sink cab.new out.new err.new) result }
+    ensures untaken { Names (codes "audit") (map string_bytes words.now)
+        ⊎ Names (codes "wallet") (map string_bytes words.now) → src.new ≡ src.old }
+    ensures ends { (Names (codes "audit") (map string_bytes words.now) → ⊥)
+        → (Names (codes "wallet") (map string_bytes words.now) → ⊥)
+        → FeedEnds (map string_bytes words.now)
+        (feed_outside (outside C.Cabinet O.Sink E.Sink cab.old out.old err.old)
+        (input R.Source src.old))
+        (feed_outside (outside C.Cabinet O.Sink E.Sink cab.new out.new err.new)
+        (input R.Source src.new)) now result }
     ensures keeps { FeedKeeps
-        (feed_outside (outside C.Cabinet O.Sink E.Sink cab.old out.old err.old) (input R.Source src.old))
-        (feed_outside (outside C.Cabinet O.Sink E.Sink cab.new out.new err.new) (input R.Source src.new)) }
+        (feed_outside (outside C.Cabinet O.Sink E.Sink cab.old out.old err.old)
+        (input R.Source src.old))
+        (feed_outside (outside C.Cabinet O.Sink E.Sink cab.new out.new err.new)
+        (input R.Source src.new)) }
 {
     if names_tool(words, "audit") {
         return run_audit(alloc, words, cab, out, err);

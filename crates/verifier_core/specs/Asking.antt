@@ -1,4 +1,5 @@
--- Not needed to believe the program's promises: verdicts where a caller checks the signatures, and what is asked of it.
+-- Not needed to believe the program's promises: verdicts where a caller checks
+-- the signatures, and what is asked of it.
 use Rattle.std.specs.Prelude.{◌≡◌, ℕ, ◌≤◌, ◌⊎◌, ◌++◌, List, Option, Some, None, Result, IfOk, OnOk, IsErrOf, codes, option_map}
 use Rattle.b64url_text.specs.Base64url.{Decodes}
 use Rattle.claim_tree.specs.Tree.{Text, Tree, Members, no_members}
@@ -44,30 +45,43 @@ abbrev pub saying : List Text → Option SignatureAnswer → Caller
 saying algs answer = record { algs = algs; answer = answer }
 
 abbrev pub asked_rules : List Text → Option SignatureAnswer → BindingPolicy → BindingRules
-asked_rules algs answer policy = record { holders = of_caller (saying algs answer); aud = policy.aud; nonce = policy.nonce; max_age = policy.max_age }
+asked_rules algs answer policy =
+    record {
+      holders = of_caller (saying algs answer);
+      aud = policy.aud;
+      nonce = policy.nonce;
+      max_age = policy.max_age;
+    }
 
--- what a policy asks but for its keys, in whose place the caller is, with these algorithms of key binding tokens
+-- what a policy asks but for its keys, in whose place the caller is, with these
+-- algorithms of key binding tokens
 abbrev pub caller_demands : Policy → List Text → Answers → Demands
-caller_demands policy binding_algs answers = record {
-  rules = record { issuers = verdict.of_caller (saying policy.algs (issuer_answer answers)); typ = policy.typ };
-  iss = policy.iss;
-  require = policy.require;
-  skew = policy.skew;
-  binding = option_map (asked_rules binding_algs (holder_answer answers)) policy.binding;
-}
+caller_demands policy binding_algs answers =
+    record {
+      rules = record {
+        issuers = verdict.of_caller (saying policy.algs (issuer_answer answers));
+        typ = policy.typ;
+      };
+      iss = policy.iss;
+      require = policy.require;
+      skew = policy.skew;
+      binding = option_map (asked_rules binding_algs (holder_answer answers)) policy.binding;
+    }
 
 -- ---- what is asked
 
--- it is to be known whether the issuer's signature is good: no condition below 9 fails, and the text of the signature is
--- that of some bytes
-pub record IsIssuerAsked (text : List ℕ) (demands : Demands) (now : ℕ) (token : Token) : Type 0 where
+-- it is to be known whether the issuer's signature is good: no condition below 9 fails, and the
+-- text of the signature is that of some bytes
+pub record IsIssuerAsked (text : List ℕ) (demands : Demands) (now : ℕ) (token : Token)
+    : Type 0 where
   pub is_token : IsToken text token
   pub passes : Passes 9 (FailsFor text demands now)
   pub signature : IsNoSignature token.parts.signed.signature → ⊥
 
--- it is to be known whether the signature of the key binding token is good: one is asked for, and no condition below 27 fails,
--- nor do 28 and 29, which are judged before the key is
-pub record IsHolderAsked (text : List ℕ) (demands : Demands) (now : ℕ) (token : Token) (binding : JwtParts) : Type 0 where
+-- it is to be known whether the signature of the key binding token is good: one is asked for, and
+-- no condition below 27 fails, nor do 28 and 29, which are judged before the key is
+pub record IsHolderAsked (text : List ℕ) (demands : Demands) (now : ℕ) (token : Token)
+    (binding : JwtParts) : Type 0 where
   pub is_token : IsToken text token
   pub passes : Passes 27 (FailsFor text demands now)
   pub header : (place : Place) → FailsFor text demands now Condition.BindingHeader place → ⊥
@@ -103,17 +117,21 @@ OnAsksHolder _ P = Unit {0}
 
 -- the text is accepted with this payload
 abbrev pub IsAcceptedForAs : List ℕ → Demands → ℕ → Tree → Type 0
-IsAcceptedForAs text demands now payload = (marked : Marked) × IsAcceptedFor text demands now marked × (payload ≡ strip marked)
+IsAcceptedForAs text demands now payload =
+    (marked : Marked) × IsAcceptedFor text demands now marked × (payload ≡ strip marked)
 
 -- nothing was said yet, and the question is about the issuer's signature
-pub record AsksIssuer (text : List ℕ) (demands : Demands) (now : ℕ) (answers : Answers) (question : Question) : Type 0 where
+pub record AsksIssuer (text : List ℕ) (demands : Demands) (now : ℕ) (answers : Answers)
+    (question : Question) : Type 0 where
   pub unsaid : answers ≡ Answers.Nothing
   pub token : Token
   pub asked : IsIssuerAsked text demands now token
   pub question_is : IsQuestion token.parts.signed token.outer question
 
--- the issuer's signature was said to be good, and the question is about that of the key binding token, beside the processed payload
-pub record AsksHolder (text : List ℕ) (demands : Demands) (now : ℕ) (answers : Answers) (question : Question) (payload : Tree) : Type 0 where
+-- the issuer's signature was said to be good, and the question is about that of
+-- the key binding token, beside the processed payload
+pub record AsksHolder (text : List ℕ) (demands : Demands) (now : ℕ) (answers : Answers)
+    (question : Question) (payload : Tree) : Type 0 where
   pub said : answers ≡ Answers.Issuer SignatureAnswer.Good
   pub token : Token
   pub binding : JwtParts
@@ -126,19 +144,25 @@ pub record AsksHolder (text : List ℕ) (demands : Demands) (now : ℕ) (answers
 -- what was said last was to be known
 abbrev pub WasAsked : List ℕ → Demands → ℕ → Answers → Type 0
 WasAsked text demands now Answers.Nothing = Unit {0}
-WasAsked text demands now (Answers.Issuer answer) = (token : Token) × IsIssuerAsked text demands now token
-WasAsked text demands now (Answers.Holder answer) = (token : Token) × (binding : JwtParts) × IsHolderAsked text demands now token binding
+WasAsked text demands now (Answers.Issuer answer) =
+    (token : Token) × IsIssuerAsked text demands now token
+WasAsked text demands now (Answers.Holder answer) =
+    (token : Token) × (binding : JwtParts) × IsHolderAsked text demands now token binding
 
 -- more is to be known
 abbrev pub IsAskedNext : List ℕ → Demands → ℕ → Answers → Type 0
-IsAskedNext text demands now Answers.Nothing = (token : Token) × IsIssuerAsked text demands now token
-IsAskedNext text demands now (Answers.Issuer answer) = (token : Token) × (binding : JwtParts) × IsHolderAsked text demands now token binding
+IsAskedNext text demands now Answers.Nothing =
+    (token : Token) × IsIssuerAsked text demands now token
+IsAskedNext text demands now (Answers.Issuer answer) =
+    (token : Token) × (binding : JwtParts) × IsHolderAsked text demands now token binding
 IsAskedNext text demands now (Answers.Holder answer) = ⊥
 
--- the issuer's signature was said to be good, and the holder's where a key binding token is asked for
+-- the issuer's signature was said to be good, and the holder's where a key
+-- binding token is asked for
 pub record AreSaidGood (demands : Demands) (answers : Answers) : Type 0 where
   pub issuer : issuer_answer answers ≡ Some SignatureAnswer.Good
-  pub holder : (rules : BindingRules) → demands.binding ≡ Some rules → holder_answer answers ≡ Some SignatureAnswer.Good
+  pub holder : (rules : BindingRules) → demands.binding ≡ Some rules
+      → holder_answer answers ≡ Some SignatureAnswer.Good
 
 -- it is a verdict, not a question
 abbrev pub IsDone : Judgement → Type 0
@@ -148,14 +172,16 @@ IsDone _ = ⊥
 
 -- ---- for private functions
 
--- what was said last was to be known, where this condition is the lowest that fails and signatures are those of some bytes
+-- what was said last was to be known, where this condition is the lowest that
+-- fails and signatures are those of some bytes
 abbrev pub IsNeededAt : Answers → ℕ → Type 0
 IsNeededAt Answers.Nothing number = Unit {0}
 IsNeededAt (Answers.Issuer answer) number = 9 ≤ number
 IsNeededAt (Answers.Holder answer) number = (number ≡ 27) ⊎ (30 ≤ number)
 
 -- all that is said of the answer
-pub record IsJudged (text : List ℕ) (demands : Demands) (now : ℕ) (answers : Answers) (result : Result Judgement JudgeError) : Type 0 where
+pub record IsJudged (text : List ℕ) (demands : Demands) (now : ℕ) (answers : Answers)
+    (result : Result Judgement JudgeError) : Type 0 where
   pub accepted : IfOk result (λ j. OnAccepted j (IsAcceptedForAs text demands now))
   pub good : IfOk result (λ j. OnAccepted j (λ _. AreSaidGood demands answers))
   pub refused : IfOk result (λ j. OnRefused j (IsLowest (FailsFor text demands now)))
@@ -167,7 +193,8 @@ pub record IsJudged (text : List ℕ) (demands : Demands) (now : ℕ) (answers :
 
 -- where a fault is answered, the signature is bad or is not judged, or it is said to be good
 abbrev pub IsEarlyOrSigned : Token → Rules → Fault → Type 0
-IsEarlyOrSigned token rules fault = (fault_number fault ≤ 10) ⊎ IsSigned token.parts.signed token.outer rules
+IsEarlyOrSigned token rules fault =
+    (fault_number fault ≤ 10) ⊎ IsSigned token.parts.signed token.outer rules
 
 -- the token processes to this payload, whatever its marks
 abbrev pub IsOpenedAs : Token → Tree → Type 0

@@ -1,4 +1,5 @@
--- Not needed to believe the program's promises: what the check of a token answers, and what its steps answer.
+-- Not needed to believe the program's promises: what the check of a token
+-- answers, and what its steps answer.
 use Rattle.std.specs.Prelude.{◌≡◌, ◌≢◌, ◌≤◌, ℕ, Bool, true, false, List, ◌∷◌, [], ◌++◌, take, slice_get, Some, None, Result, Ok, Err, IfOk, IfErr, ◌⊎◌}
 use Rattle.std.specs.List.{AllZip}
 use Rattle.sd_outside.specs.Limits.{json_depth_max}
@@ -54,11 +55,14 @@ pub record IsContent (token : Token) (rules : Rules) (content : Content) : Type 
 
 -- what is so for each token of which this is read
 abbrev pub OfToken : Content → (Token → Rules → Type 0) → Type 0
-OfToken content IsSo = (token : Token) (rules : Rules) → IsContent token rules content → IsSo token rules
+OfToken content IsSo =
+    (token : Token) (rules : Rules) → IsContent token rules content → IsSo token rules
 
 -- the look-ups of a token that is checked
 abbrev pub IsCounted : Token → ℕ → ℕ → Type 0
-IsCounted token old new = (payload : Tree) × (given : List Given) × HasContent token payload given × (new ≡ counted old (look_ups payload given))
+IsCounted token old new =
+    (payload : Tree) × (given : List Given) × HasContent token payload given
+    × (new ≡ counted old (look_ups payload given))
 
 -- the same of a text: those of the token that it is read as
 abbrev pub IsReadCounted : List ℕ → ℕ → ℕ → Type 0
@@ -66,25 +70,32 @@ IsReadCounted content old new = (token : Token) × IsToken content token × IsCo
 
 -- the look-ups of a token that is not: no more than of one that is
 abbrev pub IsCountedWithin : Token → ℕ → ℕ → Type 0
-IsCountedWithin token old new = (new ≡ old) ⊎ ((payload : Tree) × (given : List Given) × HasContent token payload given × RoseWithin (look_ups payload given) old new)
+IsCountedWithin token old new =
+    (new ≡ old)
+    ⊎ ((payload : Tree) × (given : List Given) × HasContent token payload given
+    × RoseWithin (look_ups payload given) old new)
 
 -- the same of a text: none, or no more than of the token that it is read as
 abbrev pub IsReadWithin : List ℕ → ℕ → ℕ → Type 0
-IsReadWithin content old new = (new ≡ old) ⊎ ((token : Token) × IsToken content token × IsCountedWithin token old new)
+IsReadWithin content old new =
+    (new ≡ old) ⊎ ((token : Token) × IsToken content token × IsCountedWithin token old new)
 
 -- where one of the conditions 1 to 13 fails, nothing is looked up, whatever is answered
 abbrev pub IsUncounted : (Condition → Place → Type 0) → ℕ → ℕ → Type 0
-IsUncounted FailsSo old new = (c : Condition) (place : Place) → FailsSo c place → number_of c ≤ 13 → new ≡ old
+IsUncounted FailsSo old new =
+    (c : Condition) (place : Place) → FailsSo c place → number_of c ≤ 13 → new ≡ old
 
 -- what an answer says where a token is opened, beside what is opened
-pub record IsOpening {A : Type 0} (token : Token) (rules : Rules) (result : Result A VerifyError) (old new : ℕ) : Type 0 where
+pub record IsOpening {A : Type 0} (token : Token) (rules : Rules) (result : Result A VerifyError)
+    (old new : ℕ) : Type 0 where
   pub refused : IfErr result (λ e. OnFault e (IsLowest (TokenFails token rules)))
   -- the look-ups
   pub counted : IfOk result (λ _. IsCounted token old new)
   pub within : IsCountedWithin token old new
 
 -- what a verdict on a text says, beside what is accepted and what refused
-pub record IsVerdictFor {A : Type 0} (text : List ℕ) (demands : Demands) (now : ℕ) (result : Result A VerifyError) (old new : ℕ) : Type 0 where
+pub record IsVerdictFor {A : Type 0} (text : List ℕ) (demands : Demands) (now : ℕ)
+    (result : Result A VerifyError) (old new : ℕ) : Type 0 where
   -- a compact text is judged by the conditions 1 to 3 without memory
   pub no_memory : FailsAsCompact text → result ≢ Err VerifyError.Memory
   -- the look-ups
@@ -97,18 +108,23 @@ IsVerdict text policy now result old new = IsVerdictFor text (demands_of policy)
 
 -- ---- for private functions
 
--- what fails each condition on what the disclosures show: on the claims, and on the key binding token
+-- what fails each condition on what the disclosures show: on the claims, and on
+-- the key binding token
 abbrev pub ShownFails : Parts → Tree → HashAlg → Demands → ℕ → Condition → Place → Type 0
-ShownFails parts payload hash demands now c place = ClaimFails payload demands now c place ⊎ HolderFails parts payload hash demands now c place
+ShownFails parts payload hash demands now c place =
+    ClaimFails payload demands now c place ⊎ HolderFails parts payload hash demands now c place
 
 -- the text is this token, which passes the conditions 4 to 13, and this is read of it
-pub record IsRead (text : List ℕ) (demands : Demands) (token : Token) (content : Content) : Type 0 where
+pub record IsRead (text : List ℕ) (demands : Demands) (token : Token) (content : Content)
+    : Type 0 where
   pub is_token : IsToken text token
   pub sent : IsBindingMissing demands token.parts → ⊥
   pub is_content : IsContent token demands.rules content
 
--- the text is this token, which passes the conditions 4 to 21, with this processed payload and this hash
-pub record IsOpened (text : List ℕ) (demands : Demands) (token : Token) (marked : Marked) (hash : HashAlg) : Type 0 where
+-- the text is this token, which passes the conditions 4 to 21, with this
+-- processed payload and this hash
+pub record IsOpened (text : List ℕ) (demands : Demands) (token : Token) (marked : Marked)
+    (hash : HashAlg) : Type 0 where
   pub is_token : IsToken text token
   pub sent : IsBindingMissing demands token.parts → ⊥
   pub checked : IsChecked token demands.rules marked
@@ -129,18 +145,33 @@ pub record IsSigned (signed : JwtParts) (outer : Members) (rules : Rules) : Type
   pub good : IsBadBy rules.issuers header signed → ⊥
 
 -- the lowest of the conditions 5 to 10 that fails
-pub data IsSignedFault (signed : JwtParts) (outer : Members) (rules : Rules) (fault : Fault) : Type 0 where
-  bad_header : IsHeaderUnreadable signed.protected outer → fault ≡ unplaced Condition.HeaderUnreadable → IsSignedFault signed outer rules fault
-  critical : IsHeaderCritical signed.protected outer → fault ≡ unplaced Condition.HeaderCritical → IsSignedFault signed outer rules fault
-  bad_alg : (header : Header) → IsHeader signed.protected outer header → IsAlgRefusedBy rules.issuers header.alg → fault ≡ unplaced Condition.AlgRefused → IsSignedFault signed outer rules fault
-  bad_type : (header : Header) → IsHeader signed.protected outer header → (IsAlgRefusedBy rules.issuers header.alg → ⊥) → IsTypeRefused rules.typ header.typ → fault ≡ unplaced Condition.TypeRefused → IsSignedFault signed outer rules fault
-  no_key : (header : Header) → IsHeader signed.protected outer header → (IsAlgRefusedBy rules.issuers header.alg → ⊥) → (IsTypeRefused rules.typ header.typ → ⊥) → IsUnknownBy rules.issuers header signed → fault ≡ unplaced Condition.IssuerKeyUnknown → IsSignedFault signed outer rules fault
-  not_signed : (header : Header) → IsHeader signed.protected outer header → (IsAlgRefusedBy rules.issuers header.alg → ⊥) → (IsTypeRefused rules.typ header.typ → ⊥) → (IsUnknownBy rules.issuers header signed → ⊥) → IsBadBy rules.issuers header signed → fault ≡ unplaced Condition.BadSignature → IsSignedFault signed outer rules fault
+pub data IsSignedFault (signed : JwtParts) (outer : Members) (rules : Rules) (fault : Fault)
+    : Type 0 where
+  bad_header : IsHeaderUnreadable signed.protected outer
+      → fault ≡ unplaced Condition.HeaderUnreadable → IsSignedFault signed outer rules fault
+  critical : IsHeaderCritical signed.protected outer → fault ≡ unplaced Condition.HeaderCritical
+      → IsSignedFault signed outer rules fault
+  bad_alg : (header : Header) → IsHeader signed.protected outer header
+      → IsAlgRefusedBy rules.issuers header.alg → fault ≡ unplaced Condition.AlgRefused
+      → IsSignedFault signed outer rules fault
+  bad_type : (header : Header) → IsHeader signed.protected outer header
+      → (IsAlgRefusedBy rules.issuers header.alg → ⊥) → IsTypeRefused rules.typ header.typ
+      → fault ≡ unplaced Condition.TypeRefused → IsSignedFault signed outer rules fault
+  no_key : (header : Header) → IsHeader signed.protected outer header
+      → (IsAlgRefusedBy rules.issuers header.alg → ⊥) → (IsTypeRefused rules.typ header.typ → ⊥)
+      → IsUnknownBy rules.issuers header signed → fault ≡ unplaced Condition.IssuerKeyUnknown
+      → IsSignedFault signed outer rules fault
+  not_signed : (header : Header) → IsHeader signed.protected outer header
+      → (IsAlgRefusedBy rules.issuers header.alg → ⊥) → (IsTypeRefused rules.typ header.typ → ⊥)
+      → (IsUnknownBy rules.issuers header signed → ⊥) → IsBadBy rules.issuers header signed
+      → fault ≡ unplaced Condition.BadSignature → IsSignedFault signed outer rules fault
 
 -- the lowest of the conditions 11 and 12 that fails
 pub data IsPayloadFault (payload : Text) (fault : Fault) : Type 0 where
-  no_body : IsNoObject payload → fault ≡ unplaced Condition.PayloadUnreadable → IsPayloadFault payload fault
-  no_hash : (body : Tree) → IsBody payload body → payload_hash body ≡ None → fault ≡ unplaced Condition.HashUnknown → IsPayloadFault payload fault
+  no_body : IsNoObject payload → fault ≡ unplaced Condition.PayloadUnreadable
+      → IsPayloadFault payload fault
+  no_hash : (body : Tree) → IsBody payload body → payload_hash body ≡ None
+      → fault ≡ unplaced Condition.HashUnknown → IsPayloadFault payload fault
 
 -- the first disclosure that is not read
 pub record IsUnreadAt (hash : HashAlg) (disclosures : List Text) (fault : Fault) : Type 0 where
@@ -167,10 +198,14 @@ pub record Adds (hash : HashAlg) (disclosure : Text) (old new : List Given) : Ty
 -- the fault of a refusal to process
 abbrev pub process_fault : ProcessError → VerifyError
 process_fault ProcessError.Memory = VerifyError.Memory
-process_fault (ProcessError.RepeatedDisclosure i) = VerifyError.Fault (placed Condition.RepeatedDisclosure i)
-process_fault (ProcessError.ReservedMisused i) = VerifyError.Fault (placed Condition.ReservedMisused i)
-process_fault (ProcessError.RepeatedDigest i) = VerifyError.Fault (placed Condition.RepeatedDigest i)
-process_fault (ProcessError.Unreferenced i) = VerifyError.Fault (placed Condition.UnreferencedDisclosure i)
+process_fault (ProcessError.RepeatedDisclosure i) =
+    VerifyError.Fault (placed Condition.RepeatedDisclosure i)
+process_fault (ProcessError.ReservedMisused i) =
+    VerifyError.Fault (placed Condition.ReservedMisused i)
+process_fault (ProcessError.RepeatedDigest i) =
+    VerifyError.Fault (placed Condition.RepeatedDigest i)
+process_fault (ProcessError.Unreferenced i) =
+    VerifyError.Fault (placed Condition.UnreferencedDisclosure i)
 process_fault (ProcessError.WrongShape i) = VerifyError.Fault (placed Condition.WrongShape i)
 process_fault (ProcessError.ReservedName i) = VerifyError.Fault (placed Condition.ReservedName i)
 process_fault (ProcessError.NameClash i) = VerifyError.Fault (placed Condition.NameClash i)

@@ -44,5 +44,6 @@ hash_code = code_by ℕ coded_ℕ hash_to hash_from hash_back
 
 abbrev pub content_code : Coded Content
 content_code =
-    code_by (Tree × (HashAlg × List Given)) (coded× tree_code (coded× hash_code given_code)) (λ c. (c.body, (c.hash, c.given)))
+    code_by (Tree × (HashAlg × List Given)) (coded× tree_code (coded× hash_code given_code))
+    (λ c. (c.body, (c.hash, c.given)))
     (λ p. record { body = p.0; hash = p.1.0; given = p.1.1 }) (λ _. refl)

@@ -1,4 +1,5 @@
--- Not needed to believe the program's promises: verdicts by what signatures mean, and when a caller's answers are true.
+-- Not needed to believe the program's promises: verdicts by what signatures
+-- mean, and when a caller's answers are true.
 use Rattle.std.specs.Prelude.{◌≡◌, ◌↔◌, ℕ, List, Some}
 use Rattle.b64url_text.specs.Base64url.{Decodes}
 use Rattle.claim_tree.specs.Tree.{Text, Tree, Members}
@@ -33,9 +34,11 @@ meanings issuer holder = record { issuer = issuer; holder = holder }
 -- the signature of the JWT is the base64url text of bytes that are good for its head and its body
 abbrev pub IsGoodBy : Meaning → JwtParts → Type 0
 IsGoodBy good signed =
-    (signature : List ℕ) × Decodes signed.signature signature × good signed.protected signed.payload signature
+    (signature : List ℕ) × Decodes signed.signature signature
+    × good signed.protected signed.payload signature
 
--- the text is that of a token that processes to this payload, and that is sent with this key binding token
+-- the text is that of a token that processes to this payload, and that is sent
+-- with this key binding token
 pub record IsSentWith (text : List ℕ) (payload : Tree) (binding : JwtParts) : Type 0 where
   pub token : Token
   pub is_token : IsToken text token
@@ -48,7 +51,8 @@ pub record IsSentWith (text : List ℕ) (payload : Tree) (binding : JwtParts) : 
 
 -- the issuer's signature is not good
 abbrev pub IsIssuerSignatureBad : Meanings → List ℕ → Type 0
-IsIssuerSignatureBad by text = (token : Token) × IsToken text token × (IsGoodBy by.issuer token.parts.signed → ⊥)
+IsIssuerSignatureBad by text =
+    (token : Token) × IsToken text token × (IsGoodBy by.issuer token.parts.signed → ⊥)
 
 -- a key binding token is asked for, and the signature of the one that is sent is not good
 abbrev pub IsHolderSignatureBad : Meanings → List ℕ → Policy → Type 0
@@ -57,11 +61,12 @@ IsHolderSignatureBad by text policy =
     × (payload : Tree) × (binding : JwtParts) × IsSentWith text payload binding
     × (IsGoodBy (by.holder payload) binding → ⊥)
 
--- what fails each condition, where no lower one fails: every key is known, a signature is good by its meaning, and the
--- other conditions are those of a caller, which no answer bears upon
+-- what fails each condition, where no lower one fails: every key is known, a signature is good by
+-- its meaning, and the other conditions are those of a caller, which no answer bears upon
 abbrev pub FailsUnder : Meanings → List ℕ → Policy → List Text → ℕ → Condition → Place → Type 0
 FailsUnder by text policy binding_algs now Condition.IssuerKeyUnknown place = ⊥
-FailsUnder by text policy binding_algs now Condition.BadSignature place = Unplaced (IsIssuerSignatureBad by text) place
+FailsUnder by text policy binding_algs now Condition.BadSignature place =
+    Unplaced (IsIssuerSignatureBad by text) place
 FailsUnder by text policy binding_algs now Condition.HolderKeyUnknown place = ⊥
 FailsUnder by text policy binding_algs now Condition.BindingSignature place =
     Unplaced (IsHolderSignatureBad by text policy) place
@@ -69,7 +74,8 @@ FailsUnder by text policy binding_algs now c place =
     FailsFor text (caller_demands policy binding_algs Answers.Nothing) now c place
 
 -- no condition fails, and the token processes to this payload
-pub record IsAcceptedUnder (by : Meanings) (text : List ℕ) (policy : Policy) (binding_algs : List Text) (now : ℕ) (payload : Tree)
+pub record IsAcceptedUnder (by : Meanings) (text : List ℕ) (policy : Policy)
+    (binding_algs : List Text) (now : ℕ) (payload : Tree)
     : Type 0 where
   pub passes : NoneFails (FailsUnder by text policy binding_algs now)
   pub token : Token
@@ -86,7 +92,8 @@ IsTrueOf SignatureAnswer.Good good signed = IsGoodBy good signed
 IsTrueOf SignatureAnswer.Bad good signed = IsGoodBy good signed → ⊥
 IsTrueOf SignatureAnswer.Unknown good signed = IsGoodBy good signed → ⊥
 
--- all that was said is true, of the token that the text is and of the key binding token that it is sent with
+-- all that was said is true, of the token that the text is and of the key
+-- binding token that it is sent with
 pub record AreTrue (by : Meanings) (text : List ℕ) (answers : Answers) : Type 0 where
   pub issuer : (answer : SignatureAnswer) → issuer_answer answers ≡ Some answer
       → (token : Token) → IsToken text token → IsTrueOf answer by.issuer token.parts.signed
@@ -95,12 +102,13 @@ pub record AreTrue (by : Meanings) (text : List ℕ) (answers : Answers) : Type 
       → IsTrueOf answer (by.holder payload) binding
 
 -- all that was said is true, and nothing more is to be known
-pub record AreTold (by : Meanings) (text : List ℕ) (policy : Policy) (binding_algs : List Text) (now : ℕ) (answers : Answers) : Type 0 where
+pub record AreTold (by : Meanings) (text : List ℕ) (policy : Policy) (binding_algs : List Text)
+    (now : ℕ) (answers : Answers) : Type 0 where
   pub truth : AreTrue by text answers
   pub done : IsAskedNext text (caller_demands policy binding_algs answers) now answers → ⊥
 
--- the condition that fails by the meanings, where this one fails a caller: a key that it does not know makes no good
--- signature
+-- the condition that fails by the meanings, where this one fails a caller: a
+-- key that it does not know makes no good signature
 abbrev pub by_meaning : Condition → Condition
 by_meaning Condition.IssuerKeyUnknown = Condition.BadSignature
 by_meaning Condition.HolderKeyUnknown = Condition.BindingSignature
@@ -114,21 +122,25 @@ fault_by_meaning fault = fault_at (by_meaning (failed_of fault)) fault.place
 -- where a caller has told what it was asked, what it accepts is what is accepted by the meanings
 abbrev pub AcceptedByMeaning : Meanings → Type 0
 AcceptedByMeaning by =
-    (text : List ℕ) (policy : Policy) (binding_algs : List Text) (now : ℕ) (answers : Answers) (payload : Tree)
+    (text : List ℕ) (policy : Policy) (binding_algs : List Text) (now : ℕ) (answers : Answers)
+    (payload : Tree)
     → AreTold by text policy binding_algs now answers
     → IsAcceptedForAs text (caller_demands policy binding_algs answers) now payload
     ↔ IsAcceptedUnder by text policy binding_algs now payload
 
--- where it has, the lowest condition that fails it is the lowest by the meanings, but for a key that it does not know
+-- where it has, the lowest condition that fails it is the lowest by the
+-- meanings, but for a key that it does not know
 abbrev pub RefusedByMeaning : Meanings → Type 0
 RefusedByMeaning by =
-    (text : List ℕ) (policy : Policy) (binding_algs : List Text) (now : ℕ) (answers : Answers) (fault : Fault)
+    (text : List ℕ) (policy : Policy) (binding_algs : List Text) (now : ℕ) (answers : Answers)
+    (fault : Fault)
     → AreTold by text policy binding_algs now answers
     → IsLowest (FailsFor text (caller_demands policy binding_algs answers) now) fault
     → IsLowest (FailsUnder by text policy binding_algs now) (fault_by_meaning fault)
 
 -- by the meanings a text is accepted with one payload or refused with one fault
-pub record HasOneVerdictUnder (by : Meanings) (text : List ℕ) (policy : Policy) (binding_algs : List Text) (now : ℕ) : Type 0 where
+pub record HasOneVerdictUnder (by : Meanings) (text : List ℕ) (policy : Policy)
+    (binding_algs : List Text) (now : ℕ) : Type 0 where
   pub not_both : (payload : Tree) (fault : Fault)
       → IsAcceptedUnder by text policy binding_algs now payload
       → IsLowest (FailsUnder by text policy binding_algs now) fault

@@ -14,8 +14,10 @@ use Rattle.verifier_core.specs.declared.policy.Policy.{Policy}
 use Rattle.verifier_core.specs.declared.policy_version.PolicyVersion.{PolicyVersion}
 use Rattle.verifier_core.specs.PolicyVersion.{IsVersion, IsIssuers, IsAudiences}
 
--- an object with four members: the audiences, the nonce, the keys of the holders, and an age in seconds
-pub record IsBindingPolicy (version : PolicyVersion) (t : Tree) (binding : BindingPolicy) : Type 0 where
+-- an object with four members: the audiences, the nonce, the keys of the
+-- holders, and an age in seconds
+pub record IsBindingPolicy (version : PolicyVersion) (t : Tree) (binding : BindingPolicy)
+    : Type 0 where
   pub members : Members
   pub is : t ≡ object members
   pub four : members_len members ≡ 4
@@ -68,7 +70,8 @@ pub record HasPolicyFault (bytes : Text) (fault : FileFault) : Type 0 where
   pub read_as : IsReadAs version (found members Version)
   pub first : IsFirstFault (policy_table version) members fault
 
--- why the file says no policy: it is no object of known members, or else by the first fault of them; want of memory says nothing
+-- why the file says no policy: it is no object of known members, or else by the
+-- first fault of them; want of memory says nothing
 abbrev pub IsPolicyFileRefused : Text → FileFault → Type 0
 IsPolicyFileRefused bytes (Missing field) = HasPolicyFault bytes (Missing field)
 IsPolicyFileRefused bytes (Wrong field) = HasPolicyFault bytes (Wrong field)

@@ -1,4 +1,5 @@
--- What the version of a policy file decides: version 1 names one issuer and one audience, version 2 lists them.
+-- What the version of a policy file decides: version 1 names one issuer and one
+-- audience, version 2 lists them.
 use Rattle.std.specs.Prelude.{◌≡◌, ◌≤◌, pos, List, [], ◌∷◌, length}
 use Rattle.sd_outside.specs.Limits.{audiences_max, binding_text_max}
 use Rattle.claim_tree.specs.Tree.{Text, whole, leaf, Tree}

@@ -1,4 +1,5 @@
--- The verdict on a token: what fails each condition and at which place, and the lowest that fails (RFC 9901 section 7.3).
+-- The verdict on a token: what fails each condition and at which place, and the
+-- lowest that fails (RFC 9901 section 7.3).
 use Rattle.std.specs.Prelude.{◌≡◌, ◌≢◌, ℕ, ◌⊎◌, List, Option, Some, None, codes, option_and_then, option_map}
 use Rattle.std.specs.List.{AllZip}
 use Rattle.claim_tree.specs.Tree.{Text, Tree, leaf, text, get}
@@ -36,7 +37,8 @@ use Rattle.verifier_core.specs.declared.policy.Policy.{Policy}
 
 -- ---- what a token says
 
--- who may sign a token: these keys, with these algorithms, or whom a caller says that checks signatures itself
+-- who may sign a token: these keys, with these algorithms, or whom a caller
+-- says that checks signatures itself
 pub data Issuers : Type 0 where
   of_keys : List NamedKey → List Text → Issuers
   of_caller : Caller → Issuers
@@ -58,7 +60,8 @@ IsAlgRefused algs alg = (alg_of_text alg ≡ None) ⊎ ((i : ℕ) → StandsAt a
 abbrev pub IsTypeRefused : Option Text → Option Text → Type 0
 IsTypeRefused asked typ = (name : Text) × (asked ≡ Some name) × (typ ≢ Some name)
 
--- the key that the header asks for: the first that is long enough for its algorithm, and has its name where there is one
+-- the key that the header asks for: the first that is long enough for its
+-- algorithm, and has its name where there is one
 abbrev pub key_for : List NamedKey → Header → Option AlgKey
 key_for keys header = option_and_then (picked_key keys header.kid) (alg_of_text header.alg)
 
@@ -78,7 +81,8 @@ IsUnknownBy (of_caller caller) header signed = IsUnknownTo caller signed.signatu
 
 -- there is one, and the signature is not good under it
 abbrev pub IsBadBy : Issuers → Header → JwtParts → Type 0
-IsBadBy (of_keys keys algs) header signed = (key : AlgKey) × (key_for keys header ≡ Some key) × IsBadSignature key signed
+IsBadBy (of_keys keys algs) header signed =
+    (key : AlgKey) × (key_for keys header ≡ Some key) × IsBadSignature key signed
 IsBadBy (of_caller caller) header signed = IsBadTo caller signed.signature
 
 abbrev pub HasPayload : Token → Tree → Type 0
@@ -90,11 +94,14 @@ HasHash token hash = (body : Tree) × HasPayload token body × (payload_hash bod
 
 -- the text is no disclosure
 abbrev pub IsNoDisclosure : Text → Type 0
-IsNoDisclosure disclosure = (salt : Tree) (name : Option Text) (value : Tree) → IsDisclosure disclosure salt name value → ⊥
+IsNoDisclosure disclosure =
+    (salt : Tree) (name : Option Text) (value : Tree) → IsDisclosure disclosure salt name value → ⊥
 
 -- the disclosure has this digest, and gives this name and value
 abbrev pub Gives : HashAlg → Text → Given → Type 0
-Gives hash disclosure given = (given.digest ≡ digest_of hash disclosure) × (salt : Tree) × IsDisclosure disclosure salt given.name given.value
+Gives hash disclosure given =
+    (given.digest ≡ digest_of hash disclosure) × (salt : Tree)
+    × IsDisclosure disclosure salt given.name given.value
 
 -- the payload of the token without its own `_sd_alg`, and what its disclosures give
 pub record HasContent (token : Token) (payload : Tree) (given : List Given) : Type 0 where
@@ -107,33 +114,61 @@ pub record HasContent (token : Token) (payload : Tree) (given : List Given) : Ty
 
 -- the condition on the content fails at this place
 abbrev pub OfContent : (Tree → List Given → ℕ → Type 0) → Token → ℕ → Type 0
-OfContent FailsAt token i = (payload : Tree) × (given : List Given) × HasContent token payload given × FailsAt payload given i
+OfContent FailsAt token i =
+    (payload : Tree) × (given : List Given) × HasContent token payload given
+    × FailsAt payload given i
 
 -- the token processes to this payload
 abbrev pub Opens : Token → Marked → Type 0
-Opens token marked = (payload : Tree) × (given : List Given) × HasContent token payload given × (marked ≡ processed payload given)
+Opens token marked =
+    (payload : Tree) × (given : List Given) × HasContent token payload given
+    × (marked ≡ processed payload given)
 
 -- ---- the conditions
 
 -- what fails each condition on a token, where no lower one fails
 abbrev pub TokenFails : Token → Rules → Condition → Place → Type 0
-TokenFails token rules Condition.HeaderUnreadable place = Unplaced (IsHeaderUnreadable token.parts.signed.protected token.outer) place
-TokenFails token rules Condition.HeaderCritical place = Unplaced (IsHeaderCritical token.parts.signed.protected token.outer) place
-TokenFails token rules Condition.AlgRefused place = Unplaced ((header : Header) × HasHeader token header × IsAlgRefusedBy rules.issuers header.alg) place
-TokenFails token rules Condition.TypeRefused place = Unplaced ((header : Header) × HasHeader token header × IsTypeRefused rules.typ header.typ) place
-TokenFails token rules Condition.IssuerKeyUnknown place = Unplaced ((header : Header) × HasHeader token header × IsUnknownBy rules.issuers header token.parts.signed) place
-TokenFails token rules Condition.BadSignature place = Unplaced ((header : Header) × HasHeader token header × IsBadBy rules.issuers header token.parts.signed) place
-TokenFails token rules Condition.PayloadUnreadable place = Unplaced (IsNoObject token.parts.signed.payload) place
-TokenFails token rules Condition.HashUnknown place = Unplaced ((body : Tree) × HasPayload token body × (payload_hash body ≡ None)) place
-TokenFails token rules Condition.DisclosureUnreadable place = Numbered (IsSuchAt IsNoDisclosure token.parts.disclosures) place
-TokenFails token rules Condition.RepeatedDisclosure place = Numbered (OfContent (λ payload given i. opening.RepeatedDisclosure given i) token) place
-TokenFails token rules Condition.ReservedMisused place = Numbered (OfContent opening.Misused token) place
-TokenFails token rules Condition.RepeatedDigest place = Numbered (OfContent opening.RepeatedDigest token) place
-TokenFails token rules Condition.UnreferencedDisclosure place = Numbered (OfContent opening.Unreferenced token) place
-TokenFails token rules Condition.WrongShape place = Numbered (OfContent opening.WrongShape token) place
-TokenFails token rules Condition.ReservedName place = Numbered (OfContent opening.ReservedName token) place
-TokenFails token rules Condition.NameClash place = Numbered (OfContent opening.NameClash token) place
-TokenFails token rules Condition.TooDeep place = Unplaced ((payload : Tree) × (given : List Given) × HasContent token payload given × opening.IsTooDeep payload given) place
+TokenFails token rules Condition.HeaderUnreadable place =
+    Unplaced (IsHeaderUnreadable token.parts.signed.protected token.outer) place
+TokenFails token rules Condition.HeaderCritical place =
+    Unplaced (IsHeaderCritical token.parts.signed.protected token.outer) place
+TokenFails token rules Condition.AlgRefused place =
+    Unplaced ((header : Header) × HasHeader token header × IsAlgRefusedBy rules.issuers header.alg)
+    place
+TokenFails token rules Condition.TypeRefused place =
+    Unplaced ((header : Header) × HasHeader token header × IsTypeRefused rules.typ header.typ) place
+TokenFails token rules Condition.IssuerKeyUnknown place =
+    Unplaced
+    ((header : Header) × HasHeader token header
+    × IsUnknownBy rules.issuers header token.parts.signed) place
+TokenFails token rules Condition.BadSignature place =
+    Unplaced
+    ((header : Header) × HasHeader token header × IsBadBy rules.issuers header token.parts.signed)
+    place
+TokenFails token rules Condition.PayloadUnreadable place =
+    Unplaced (IsNoObject token.parts.signed.payload) place
+TokenFails token rules Condition.HashUnknown place =
+    Unplaced ((body : Tree) × HasPayload token body × (payload_hash body ≡ None)) place
+TokenFails token rules Condition.DisclosureUnreadable place =
+    Numbered (IsSuchAt IsNoDisclosure token.parts.disclosures) place
+TokenFails token rules Condition.RepeatedDisclosure place =
+    Numbered (OfContent (λ payload given i. opening.RepeatedDisclosure given i) token) place
+TokenFails token rules Condition.ReservedMisused place =
+    Numbered (OfContent opening.Misused token) place
+TokenFails token rules Condition.RepeatedDigest place =
+    Numbered (OfContent opening.RepeatedDigest token) place
+TokenFails token rules Condition.UnreferencedDisclosure place =
+    Numbered (OfContent opening.Unreferenced token) place
+TokenFails token rules Condition.WrongShape place =
+    Numbered (OfContent opening.WrongShape token) place
+TokenFails token rules Condition.ReservedName place =
+    Numbered (OfContent opening.ReservedName token) place
+TokenFails token rules Condition.NameClash place =
+    Numbered (OfContent opening.NameClash token) place
+TokenFails token rules Condition.TooDeep place =
+    Unplaced
+    ((payload : Tree) × (given : List Given) × HasContent token payload given
+    × opening.IsTooDeep payload given) place
 TokenFails token rules _ place = ⊥
 
 -- the claim is one of these texts
@@ -142,10 +177,11 @@ NamesIssuer issuers claim = (iss : Text) × In iss issuers × (claim ≡ Some (l
 
 -- an issuer is asked for, and the claim is none of those
 abbrev pub IsIssuerRefused : Option (List Text) → Option Tree → Type 0
-IsIssuerRefused asked claim = (issuers : List Text) × (asked ≡ Some issuers) × (NamesIssuer issuers claim → ⊥)
+IsIssuerRefused asked claim =
+    (issuers : List Text) × (asked ≡ Some issuers) × (NamesIssuer issuers claim → ⊥)
 
--- what is asked of a token file: of the token itself, of the claims of its processed payload, and of a key binding token, where
--- one is asked for
+-- what is asked of a token file: of the token itself, of the claims of its processed payload, and
+-- of a key binding token, where one is asked for
 pub record Demands : Type 0 where
   pub rules : Rules
   pub iss : Option (List Text)
@@ -157,37 +193,53 @@ pub record Demands : Type 0 where
 abbrev pub ClaimFails : Tree → Demands → ℕ → Condition → Place → Type 0
 ClaimFails payload demands now Condition.IssuerRefused place =
     Unplaced (IsIssuerRefused demands.iss (get payload (codes "iss"))) place
-ClaimFails payload demands now Condition.ClaimMissing place = Numbered (IsSuchAt (λ name. get payload name ≡ None) demands.require) place
-ClaimFails payload demands now Condition.TimeUnreadable place = Unplaced (IsTimeUnreadable payload) place
-ClaimFails payload demands now Condition.Expired place = Unplaced (IsExpired payload demands.skew now) place
-ClaimFails payload demands now Condition.NotYet place = Unplaced (IsNotYet payload demands.skew now) place
+ClaimFails payload demands now Condition.ClaimMissing place =
+    Numbered (IsSuchAt (λ name. get payload name ≡ None) demands.require) place
+ClaimFails payload demands now Condition.TimeUnreadable place =
+    Unplaced (IsTimeUnreadable payload) place
+ClaimFails payload demands now Condition.Expired place =
+    Unplaced (IsExpired payload demands.skew now) place
+ClaimFails payload demands now Condition.NotYet place =
+    Unplaced (IsNotYet payload demands.skew now) place
 ClaimFails payload demands now _ place = ⊥
 
 -- a key binding token is asked for, and there is none
 abbrev pub IsBindingMissing : Demands → Parts → Type 0
-IsBindingMissing demands parts = (binding : BindingRules) × (demands.binding ≡ Some binding) × (parts.binding ≡ None)
+IsBindingMissing demands parts =
+    (binding : BindingRules) × (demands.binding ≡ Some binding) × (parts.binding ≡ None)
 
 abbrev pub MissingFails : Demands → Parts → Condition → Place → Type 0
-MissingFails demands parts c place = (c ≡ Condition.BindingMissing) × Unplaced (IsBindingMissing demands parts) place
+MissingFails demands parts c place =
+    (c ≡ Condition.BindingMissing) × Unplaced (IsBindingMissing demands parts) place
 
--- what fails each condition on the key binding token that is asked for, over the processed payload and the hash of the token that it is sent with
-pub record HolderFails (parts : Parts) (payload : Tree) (hash : HashAlg) (demands : Demands) (now : ℕ) (c : Condition) (place : Place) : Type 0 where
+-- what fails each condition on the key binding token that is asked for, over the processed payload
+-- and the hash of the token that it is sent with
+pub record HolderFails (parts : Parts) (payload : Tree) (hash : HashAlg) (demands : Demands)
+    (now : ℕ) (c : Condition) (place : Place) : Type 0 where
   pub binding : BindingRules
   pub asked : demands.binding ≡ Some binding
   pub token : JwtParts
   pub sent : parts.binding ≡ Some token
-  pub fails : BindingFails (judged token payload binding demands.skew hash (hashed parts) now) c place
+  pub fails : BindingFails (judged token payload binding demands.skew hash (hashed parts) now) c
+      place
 
 abbrev pub FileFails : List ℕ → Condition → Place → Type 0
 FileFails content c place = file.TextFails content (fault_at c place)
 
 -- what fails each condition on a token file of which this is asked
-pub data FailsFor (content : List ℕ) (demands : Demands) (now : ℕ) (c : Condition) (place : Place) : Type 0 where
+pub data FailsFor (content : List ℕ) (demands : Demands) (now : ℕ) (c : Condition) (place : Place)
+    : Type 0 where
   of_file : FileFails content c place → FailsFor content demands now c place
-  of_missing : (token : Token) → IsToken content token → MissingFails demands token.parts c place → FailsFor content demands now c place
-  of_token : (token : Token) → IsToken content token → TokenFails token demands.rules c place → FailsFor content demands now c place
-  of_claims : (token : Token) (marked : Marked) → IsToken content token → Opens token marked → ClaimFails (strip marked) demands now c place → FailsFor content demands now c place
-  of_holder : (token : Token) (marked : Marked) (hash : HashAlg) → IsToken content token → Opens token marked → HasHash token hash → HolderFails token.parts (strip marked) hash demands now c place → FailsFor content demands now c place
+  of_missing : (token : Token) → IsToken content token → MissingFails demands token.parts c place
+      → FailsFor content demands now c place
+  of_token : (token : Token) → IsToken content token → TokenFails token demands.rules c place
+      → FailsFor content demands now c place
+  of_claims : (token : Token) (marked : Marked) → IsToken content token → Opens token marked
+      → ClaimFails (strip marked) demands now c place → FailsFor content demands now c place
+  of_holder : (token : Token) (marked : Marked) (hash : HashAlg) → IsToken content token
+      → Opens token marked → HasHash token hash
+      → HolderFails token.parts (strip marked) hash demands now c place
+      → FailsFor content demands now c place
 
 -- the rules of these keys, algorithms and type
 abbrev pub asked : List NamedKey → List Text → Option Text → Rules
@@ -198,7 +250,14 @@ rules_of policy = asked policy.keys policy.algs policy.typ
 
 -- what a policy asks
 abbrev pub demands_of : Policy → Demands
-demands_of policy = record { rules = rules_of policy; iss = policy.iss; require = policy.require; skew = policy.skew; binding = option_map binding_rules policy.binding }
+demands_of policy =
+    record {
+      rules = rules_of policy;
+      iss = policy.iss;
+      require = policy.require;
+      skew = policy.skew;
+      binding = option_map binding_rules policy.binding;
+    }
 
 -- what fails each condition on a token file under a policy
 abbrev pub Fails : List ℕ → Policy → ℕ → Condition → Place → Type 0
@@ -212,7 +271,8 @@ pub record IsChecked (token : Token) (rules : Rules) (marked : Marked) : Type 0 
   pub opens : Opens token marked
 
 -- no condition fails, and the token processes to this payload
-pub record IsAcceptedFor (content : List ℕ) (demands : Demands) (now : ℕ) (marked : Marked) : Type 0 where
+pub record IsAcceptedFor (content : List ℕ) (demands : Demands) (now : ℕ) (marked : Marked)
+    : Type 0 where
   pub passes : NoneFails (FailsFor content demands now)
   pub token : Token
   pub is_token : IsToken content token

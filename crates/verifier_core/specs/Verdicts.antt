@@ -13,13 +13,15 @@ use Rattle.verifier_core.specs.Verdict.{Fails, HasContent, IsAccepted, IsChecked
 
 -- the same of the payload without its marks
 abbrev pub IsCheckedAs : Token → Rules → Tree → Type 0
-IsCheckedAs token rules payload = (marked : Marked) × IsChecked token rules marked × (payload ≡ strip marked)
+IsCheckedAs token rules payload =
+    (marked : Marked) × IsChecked token rules marked × (payload ≡ strip marked)
 
 abbrev pub IsAcceptedAs : List ℕ → Policy → ℕ → Tree → Type 0
-IsAcceptedAs content policy now payload = (marked : Marked) × IsAccepted content policy now marked × (payload ≡ strip marked)
+IsAcceptedAs content policy now payload =
+    (marked : Marked) × IsAccepted content policy now marked × (payload ≡ strip marked)
 
--- the text is a token, and the payload has no more nodes than what the issuer signed and what its disclosures give
--- together
+-- the text is a token, and the payload has no more nodes than what the issuer
+-- signed and what its disclosures give together
 pub record IsBounded (content : List ℕ) (payload : Tree) : Type 0 where
   pub token : Token
   pub is_token : IsToken content token
@@ -30,5 +32,7 @@ pub record IsBounded (content : List ℕ) (payload : Tree) : Type 0 where
 
 -- the texts are accepted with the same payload, or refused with the same fault
 pub record HaveOneVerdict (text other : List ℕ) (policy : Policy) (now : ℕ) : Type 0 where
-  pub accepted : (marked : Marked) → IsAccepted text policy now marked ↔ IsAccepted other policy now marked
-  pub refused : (fault : Fault) → IsLowest (Fails text policy now) fault ↔ IsLowest (Fails other policy now) fault
+  pub accepted : (marked : Marked) → IsAccepted text policy now marked
+      ↔ IsAccepted other policy now marked
+  pub refused : (fault : Fault) → IsLowest (Fails text policy now) fault
+      ↔ IsLowest (Fails other policy now) fault

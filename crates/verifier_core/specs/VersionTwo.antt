@@ -20,13 +20,15 @@ pub record ListsAudience (one two : Tree) : Type 0 where
   pub other_is : two ≡ object others
   pub as_many : members_len others ≡ members_len members
   pub aud : member_named others (codes "aud") ≡ as_list (member_named members (codes "aud"))
-  pub same : (name : Text) → name ≢ codes "aud" → member_named others name ≡ member_named members name
+  pub same : (name : Text) → name ≢ codes "aud"
+      → member_named others name ≡ member_named members name
 
 abbrev pub BindingListed : Option Tree → Option Tree → Type 0
 BindingListed None other = other ≡ None
 BindingListed (Some one) other = (two : Tree) × (other ≡ Some two) × ListsAudience one two
 
--- the texts of two files, the second of version 2, with the same members, but that it lists the issuer and the audience
+-- the texts of two files, the second of version 2, with the same members, but
+-- that it lists the issuer and the audience
 pub record SaysInTwo (one two : Text) : Type 0 where
   pub members : Members
   pub reads : Reads one (object members)
@@ -36,4 +38,5 @@ pub record SaysInTwo (one two : Text) : Type 0 where
   pub second : found others Version ≡ Some (leaf (whole (pos 2)))
   pub iss : found others Iss ≡ as_list (found members Iss)
   pub binding : BindingListed (found members Binding) (found others Binding)
-  pub same : (name : Text) → name ≢ codes "version" → name ≢ codes "iss" → name ≢ codes "binding" → member_named others name ≡ member_named members name
+  pub same : (name : Text) → name ≢ codes "version" → name ≢ codes "iss" → name ≢ codes "binding"
+      → member_named others name ≡ member_named members name

@@ -43,7 +43,8 @@ pub enum Answers {
 /// A signature that the caller is to check.
 #[derive(Debug, Drop)]
 pub struct Question {
-    /// What is signed: the head and the body of the JWT with the full stop between them (RFC 7515 section 5.2).
+    /// What is signed: the head and the body of the JWT with the full stop
+    /// between them (RFC 7515 section 5.2).
     pub text: TextBox,
     /// The signature.
     pub signature: ByteBox,
@@ -60,8 +61,8 @@ pub enum Judgement {
     Refused(Fault),
     /// The caller is to say whether the issuer's signature is good.
     AsksIssuer(Question),
-    /// The caller is to say whether the signature of the key binding token is good, under the key that the claim `cnf`
-    /// of the processed payload names (RFC 7800 section 3).
+    /// The caller is to say whether the signature of the key binding token is good, under the key
+    /// that the claim `cnf` of the processed payload names (RFC 7800 section 3).
     AsksHolder(Question, Tree),
 }
 
@@ -70,7 +71,8 @@ pub enum Judgement {
 pub enum JudgeError {
     /// There was no memory for it.
     Memory,
-    /// What was said last was not to be known: a lower condition fails, or there is no such signature.
+    /// What was said last was not to be known: a lower condition fails, or
+    /// there is no such signature.
     NotAsked,
 }
 
@@ -111,7 +113,8 @@ fn binding_rules<'a>(
     algs: &'a TextList,
     answers: Answers,
 ) -> Option<BindingRules<'a>>
-    ensures { option_map rules_seen result ≡ option_map (asked_rules algs.now (holder_answer_of answers)) policy.now.binding }
+    ensures { option_map rules_seen result
+        ≡ option_map (asked_rules algs.now (holder_answer_of answers)) policy.now.binding }
 {
     let Some(binding) = &policy.binding else {
         return None;
@@ -156,7 +159,8 @@ struct Case<'a> {
     answers: Answers,
 }
 
-// Whether what was said last was to be known, where the condition of this number is the lowest that fails.
+// Whether what was said last was to be known, where the condition of this
+// number is the lowest that fails.
 fn is_needed_at(answers: Answers, number: u8) -> bool
     ensures { IsTrue result ↔ IsNeededAt answers number }
 {
@@ -183,7 +187,9 @@ fn refused(case: Case<'_>, fault: Fault) -> Result<Judgement, JudgeError>
 
 // The head and the body of a JWT with the full stop between them.
 fn signed_text(alloc: Global, signed: JwtView<'_>) -> Result<TextBox, NoMemory>
-    ensures { IfOk result (λ text. text ≡ (jwt_of signed.entry).protected ++ (codes "." ++ (jwt_of signed.entry).payload)) }
+    ensures { IfOk result
+        (λ text. text
+        ≡ (jwt_of signed.entry).protected ++ (codes "." ++ (jwt_of signed.entry).payload)) }
 {
     let mut text = String::with_capacity(alloc, signed.protected.len())?;
     text.push_str(signed.protected)?;
@@ -192,9 +198,11 @@ fn signed_text(alloc: Global, signed: JwtView<'_>) -> Result<TextBox, NoMemory>
     Ok(TextBox::from_string(text))
 }
 
-/// The question about the signature of a JWT whose header is read, where the text of its signature is that of some bytes.
+/// The question about the signature of a JWT whose header is read, where the
+/// text of its signature is that of some bytes.
 ///
-/// `outer` are the unprotected members of the header (RFC 7515 section 7.2.1), of which a compact text has none.
+/// `outer` are the unprotected members of the header (RFC 7515 section 7.2.1),
+/// of which a compact text has none.
 pub fn question_on(
     alloc: Global,
     signed: JwtView<'_>,
@@ -344,7 +352,8 @@ fn on_no_binding_signature(
     }
 }
 
-// What is answered where the signature of the key binding token is not good, or nothing was said of it.
+// What is answered where the signature of the key binding token is not good, or
+// nothing was said of it.
 fn on_bad_binding(
     alloc: Global,
     case: Case<'_>,
@@ -427,7 +436,8 @@ fn judge_token(
     ensures judged { IsJudgedIn case.entry result }
 
     // the look-ups
-    ensures counted { IfOk result (λ j. OnAccepted j (λ _. IsCounted token.now steps.old steps.new)) }
+    ensures counted { IfOk result
+        (λ j. OnAccepted j (λ _. IsCounted token.now steps.old steps.new)) }
     ensures within { IsCountedWithin token.now steps.old steps.new }
     ensures uncounted { IsUncounted (fails_in case.entry) steps.old steps.new }
 {
@@ -452,18 +462,21 @@ fn judge_token(
     }
 }
 
-/// Verifies a token file as [`verify`](crate::verify) does, but asks the caller whether its signatures are good: for
-/// algorithms whose keys are not held here, as those of elliptic curves (RFC 7518 section 3.4, RFC 8037).
+/// Verifies a token file as [`verify`](crate::verify) does, but asks the caller
+/// whether its signatures are good: for algorithms whose keys are not held
+/// here, as those of elliptic curves (RFC 7518 section 3.4, RFC 8037).
 ///
-/// The caller calls with [`Answers::Nothing`], and again with what it found out where it is asked: first of the issuer's
-/// signature, when the conditions 1 to 8 do not fail, then of that of the key binding token, when the conditions up to
-/// 26 and 28 and 29 do not. Each call judges the text anew and keeps nothing. The keys of the policy are not looked at;
-/// its `algs` are the algorithms that are taken of the issuer, `binding_algs` those of the holder (of which see
-/// [`Caller`]). `steps` counts the look-ups of digests.
+/// The caller calls with [`Answers::Nothing`], and again with what it found out where it
+/// is asked: first of the issuer's signature, when the conditions 1 to 8 do not fail,
+/// then of that of the key binding token, when the conditions up to 26 and 28 and 29 do
+/// not. Each call judges the text anew and keeps nothing. The keys of the policy are not
+/// looked at; its `algs` are the algorithms that are taken of the issuer, `binding_algs`
+/// those of the holder (of which see [`Caller`]). `steps` counts the look-ups of digests.
 ///
-/// The caller answers for its word: it has checked the signature over the bytes of the question and no others, with a
-/// key that serves the algorithm that the header names, and that it trusts; for the holder with the key of the claim
-/// `cnf` in the payload of the question. Where its word is true, the verdict is that by the meaning of the signatures
+/// The caller answers for its word: it has checked the signature over the bytes of the question and
+/// no others, with a key that serves the algorithm that the header names, and that it trusts; for
+/// the holder with the key of the claim `cnf` in the payload of the question. Where its word is
+/// true, the verdict is that by the meaning of the signatures
 /// ([`judged_by_meaning`](crate::laws::judged_by_meaning)).
 pub fn judge(
     alloc: Global,
@@ -474,21 +487,44 @@ pub fn judge(
     answers: Answers,
     steps: &mut Steps,
 ) -> Result<Judgement, JudgeError>
-    ensures accepted { IfOk result (λ j. OnAccepted j (IsAcceptedForAs text.now (demands_of_caller policy.now binding_algs.now answers) now)) }
-    ensures good { IfOk result (λ j. OnAccepted j (λ _. AreSaidGood (demands_of_caller policy.now binding_algs.now answers) answers)) }
-    ensures refused { IfOk result (λ j. OnRefused j (IsLowest (FailsFor text.now (demands_of_caller policy.now binding_algs.now answers) now))) }
-    ensures asks_issuer { IfOk result (λ j. OnAsksIssuer j (AsksIssuer text.now (demands_of_caller policy.now binding_algs.now answers) now answers)) }
-    ensures asks_holder { IfOk result (λ j. OnAsksHolder j (AsksHolder text.now (demands_of_caller policy.now binding_algs.now answers) now answers)) }
+    ensures accepted { IfOk result
+        (λ j. OnAccepted j
+        (IsAcceptedForAs text.now (demands_of_caller policy.now binding_algs.now answers)
+        now)) }
+    ensures good { IfOk result
+        (λ j. OnAccepted j
+        (λ _. AreSaidGood (demands_of_caller policy.now binding_algs.now answers) answers)) }
+    ensures refused { IfOk result
+        (λ j. OnRefused j
+        (IsLowest
+        (FailsFor text.now (demands_of_caller policy.now binding_algs.now answers) now))) }
+    ensures asks_issuer { IfOk result
+        (λ j. OnAsksIssuer j
+        (AsksIssuer text.now (demands_of_caller policy.now binding_algs.now answers) now
+        answers)) }
+    ensures asks_holder { IfOk result
+        (λ j. OnAsksHolder j
+        (AsksHolder text.now (demands_of_caller policy.now binding_algs.now answers) now
+        answers)) }
 
     // nothing was said that was not to be known, and where it is done, nothing more is
-    ensures needed { OnOk result (WasAsked text.now (demands_of_caller policy.now binding_algs.now answers) now answers) }
-    ensures done { IfOk result (λ j. IsDone j → IsAskedNext text.now (demands_of_caller policy.now binding_algs.now answers) now answers → ⊥) }
-    ensures not_asked { IsErrOf result unjudged.JudgeError.NotAsked → WasAsked text.now (demands_of_caller policy.now binding_algs.now answers) now answers → ⊥ }
+    ensures needed { OnOk result
+        (WasAsked text.now (demands_of_caller policy.now binding_algs.now answers) now answers) }
+    ensures done { IfOk result
+        (λ j. IsDone j
+        → IsAskedNext text.now (demands_of_caller policy.now binding_algs.now answers) now
+        answers → ⊥) }
+    ensures not_asked { IsErrOf result unjudged.JudgeError.NotAsked
+        → WasAsked text.now (demands_of_caller policy.now binding_algs.now answers) now answers
+        → ⊥ }
 
     // the look-ups
-    ensures counted { IfOk result (λ j. OnAccepted j (λ _. IsReadCounted text.now steps.old steps.new)) }
+    ensures counted { IfOk result
+        (λ j. OnAccepted j (λ _. IsReadCounted text.now steps.old steps.new)) }
     ensures within { IsReadWithin text.now steps.old steps.new }
-    ensures uncounted { IsUncounted (FailsFor text.now (demands_of_caller policy.now binding_algs.now answers) now) steps.old steps.new }
+    ensures uncounted { IsUncounted
+        (FailsFor text.now (demands_of_caller policy.now binding_algs.now answers) now) steps.old
+        steps.new }
 {
     let case = Case {
         text,

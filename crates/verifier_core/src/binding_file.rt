@@ -24,8 +24,12 @@ pub const AGE_MAX: u32 = 4_294_967_295;
 const MEMBERS: usize = 4;
 
 fn keys_in(alloc: Global, members: &TreeMap) -> Result<Option<KeySet>, NoMemory>
-    ensures keys { IfOk result (λ keys. IfSome keys (Says IsKeySet (member_named members.now (codes "keys")))) }
-    ensures none { IfOk result (λ keys. IfNone keys ((set : List NamedKey) → Says IsKeySet (member_named members.now (codes "keys")) set → ⊥)) }
+    ensures keys { IfOk result
+        (λ keys. IfSome keys (Says IsKeySet (member_named members.now (codes "keys")))) }
+    ensures none { IfOk result
+        (λ keys. IfNone keys
+        ((set : List NamedKey) → Says IsKeySet (member_named members.now (codes "keys")) set
+        → ⊥)) }
 {
     let Some(tree) = members.get("keys") else {
         return Ok(None);
@@ -40,8 +44,11 @@ fn keys_in(alloc: Global, members: &TreeMap) -> Result<Option<KeySet>, NoMemory>
 }
 
 fn max_age_in(members: &TreeMap) -> Option<u32>
-    ensures age { IfSome result (Says (IsWholeUpTo age_max) (member_named members.now (codes "max_age"))) }
-    ensures none { IfNone result ((age : ℕ) → Says (IsWholeUpTo age_max) (member_named members.now (codes "max_age")) age → ⊥) }
+    ensures age { IfSome result
+        (Says (IsWholeUpTo age_max) (member_named members.now (codes "max_age"))) }
+    ensures none { IfNone result
+        ((age : ℕ) → Says (IsWholeUpTo age_max) (member_named members.now (codes "max_age")) age
+        → ⊥) }
 {
     whole_up_to(members.get("max_age")?, AGE_MAX)
 }
@@ -51,8 +58,10 @@ fn binding_of(
     tree: &Tree,
     version: PolicyVersion,
 ) -> Result<Option<BindingPolicy>, NoMemory>
-    ensures binding { IfOk result (λ binding. IfSome binding (IsBindingPolicy version (tree_of tree.now))) }
-    ensures none { IfOk result (λ binding. IfNone binding (HasValue (IsBindingPolicy version) (tree_of tree.now) → ⊥)) }
+    ensures binding { IfOk result
+        (λ binding. IfSome binding (IsBindingPolicy version (tree_of tree.now))) }
+    ensures none { IfOk result
+        (λ binding. IfNone binding (HasValue (IsBindingPolicy version) (tree_of tree.now) → ⊥)) }
 {
     let Tree::Object(members) = tree else {
         return Ok(None);
@@ -87,7 +96,8 @@ pub(crate) fn binding_member(
     version: PolicyVersion,
 ) -> Result<Option<BindingPolicy>, FileFault>
     ensures ok { IfOk result (MaySay (IsBindingPolicy version) (found members.now Binding)) }
-    ensures refused { IfErr result (IsMemberRefused (optional Binding (IsBindingPolicy version)) members.now) }
+    ensures refused { IfErr result
+        (IsMemberRefused (optional Binding (IsBindingPolicy version)) members.now) }
 {
     let Some(tree) = members.get(Field::Binding.word()) else {
         return Ok(None);

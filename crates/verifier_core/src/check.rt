@@ -94,10 +94,11 @@ fn check(
     })
 }
 
-/// Checks a token itself: the conditions 5 to 21, RFC 9901 section 7.3, without its key binding token.
+/// Checks a token itself: the conditions 5 to 21, RFC 9901 section 7.3, without
+/// its key binding token.
 ///
-/// The header, the signature, the payload and the disclosures are judged in this order, and the first condition that
-/// fails is answered. `steps` counts the look-ups of digests.
+/// The header, the signature, the payload and the disclosures are judged in this order, and the
+/// first condition that fails is answered. `steps` counts the look-ups of digests.
 pub fn check_token(
     alloc: Global,
     token: &Token,
@@ -107,15 +108,21 @@ pub fn check_token(
     steps: &mut Steps,
 ) -> Result<Checked, VerifyError>
     requires few { length token.now.parts.disclosures < 2 ^ 32 - 1 }
-    ensures checked { IfOk result (λ c. IsChecked token.now (asked keys.now algs.now (option_copied typ.entry)) (marked_of c.marked)) }
+    ensures checked { IfOk result
+        (λ c. IsChecked token.now (asked keys.now algs.now (option_copied typ.entry))
+        (marked_of c.marked)) }
     ensures payload { IfOk result (λ c. tree_of c.payload ≡ strip_of (marked_of c.marked)) }
     ensures hash { IfOk result (λ c. HasHash token.now c.hash) }
-    ensures refused { IfErr result (λ e. OnFault e (IsLowest (TokenFails token.now (asked keys.now algs.now (option_copied typ.entry))))) }
+    ensures refused { IfErr result
+        (λ e. OnFault e
+        (IsLowest (TokenFails token.now (asked keys.now algs.now (option_copied typ.entry))))) }
 
     // the look-ups
     ensures counted { IfOk result (λ _. IsCounted token.now steps.old steps.new) }
     ensures within { IsCountedWithin token.now steps.old steps.new }
-    ensures uncounted { IsUncounted (TokenFails token.now (asked keys.now algs.now (option_copied typ.entry))) steps.old steps.new }
+    ensures uncounted { IsUncounted
+        (TokenFails token.now (asked keys.now algs.now (option_copied typ.entry))) steps.old
+        steps.new }
 {
     check(
         alloc,
@@ -135,15 +142,23 @@ pub fn check_view(
     steps: &mut Steps,
 ) -> Result<Checked, VerifyError>
     requires few { length view.now.disclosures < 2 ^ 32 - 1 }
-    ensures checked { IfOk result (λ c. IsChecked (alone view.now) (asked keys.now algs.now (option_copied typ.entry)) (marked_of c.marked)) }
+    ensures checked { IfOk result
+        (λ c. IsChecked (alone view.now) (asked keys.now algs.now (option_copied typ.entry))
+        (marked_of c.marked)) }
     ensures payload { IfOk result (λ c. tree_of c.payload ≡ strip_of (marked_of c.marked)) }
     ensures hash { IfOk result (λ c. HasHash (alone view.now) c.hash) }
-    ensures refused { IfErr result (λ e. OnFault e (IsLowest (TokenFails (alone view.now) (asked keys.now algs.now (option_copied typ.entry))))) }
+    ensures refused { IfErr result
+        (λ e. OnFault e
+        (IsLowest
+        (TokenFails (alone view.now)
+        (asked keys.now algs.now (option_copied typ.entry))))) }
 
     // the look-ups
     ensures counted { IfOk result (λ _. IsCounted (alone view.now) steps.old steps.new) }
     ensures within { IsCountedWithin (alone view.now) steps.old steps.new }
-    ensures uncounted { IsUncounted (TokenFails (alone view.now) (asked keys.now algs.now (option_copied typ.entry))) steps.old steps.new }
+    ensures uncounted { IsUncounted
+        (TokenFails (alone view.now) (asked keys.now algs.now (option_copied typ.entry))) steps.old
+        steps.new }
 {
     let outer = TreeMap::new(alloc);
     let token = TokenView::in_text(view.copy(), &outer);

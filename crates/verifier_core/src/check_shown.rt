@@ -29,7 +29,8 @@ pub(crate) fn is_binding_missing(token: &TokenView<'_>, demands: &Demands<'_>) -
     token.binding().is_none()
 }
 
-// The conditions 27 to 38 of the key binding token that is sent. What reads it takes room only here.
+// The conditions 27 to 38 of the key binding token that is sent. What reads it
+// takes room only here.
 fn check_sent(alloc: Global, bound: Bound<'_>) -> Result<(), BoundError>
     ensures passes { OnOk result (NoneFails (BindingFails (judged_of bound.entry))) }
     ensures refused { IfErr result (λ e. OnBoundFails e (IsLowestBinding (judged_of bound.entry))) }
@@ -52,8 +53,15 @@ fn check_holder(
     demands: &Demands<'_>,
     now: u64,
 ) -> Result<(), VerifyError>
-    ensures passes { OnOk result (NoneFails (HolderFails shown.entry.token.now.parts (tree_of shown.entry.payload.now) shown.entry.hash demands.now now)) }
-    ensures refused { IfErr result (λ e. OnFault e (IsLowest (HolderFails shown.entry.token.now.parts (tree_of shown.entry.payload.now) shown.entry.hash demands.now now))) }
+    ensures passes { OnOk result
+        (NoneFails
+        (HolderFails shown.entry.token.now.parts (tree_of shown.entry.payload.now)
+        shown.entry.hash demands.now now)) }
+    ensures refused { IfErr result
+        (λ e. OnFault e
+        (IsLowest
+        (HolderFails shown.entry.token.now.parts (tree_of shown.entry.payload.now)
+        shown.entry.hash demands.now now))) }
 {
     let Some(rules) = demands.binding else {
         return Ok(());
@@ -84,10 +92,14 @@ pub(crate) fn check_shown(
     demands: &Demands<'_>,
     now: u64,
 ) -> Result<(), VerifyError>
-    ensures accepted { (text : List ℕ) (marked : Marked) → IsOpened text demands.now shown.entry.token.now marked shown.entry.hash
-        → tree_of shown.entry.payload.now ≡ strip marked → OnOk result (IsAcceptedFor text demands.now now marked) }
-    ensures refused { (text : List ℕ) (marked : Marked) → IsOpened text demands.now shown.entry.token.now marked shown.entry.hash
-        → tree_of shown.entry.payload.now ≡ strip marked → IfErr result (λ e. OnFault e (IsLowest (FailsFor text demands.now now))) }
+    ensures accepted { (text : List ℕ) (marked : Marked)
+        → IsOpened text demands.now shown.entry.token.now marked shown.entry.hash
+        → tree_of shown.entry.payload.now ≡ strip marked
+        → OnOk result (IsAcceptedFor text demands.now now marked) }
+    ensures refused { (text : List ℕ) (marked : Marked)
+        → IsOpened text demands.now shown.entry.token.now marked shown.entry.hash
+        → tree_of shown.entry.payload.now ≡ strip marked
+        → IfErr result (λ e. OnFault e (IsLowest (FailsFor text demands.now now))) }
 {
     if let Err(fault) = check_claims(shown.payload, demands, now) {
         return Err(VerifyError::Fault(fault));

@@ -64,7 +64,11 @@ fn answer_of_keys(
     header: &Header,
     signed: JwtView<'_>,
 ) -> Result<SignatureAnswer, NoMemory>
-    ensures { (algs : List Text) → IfOk result (λ answer. Tells answer (IsUnknownBy (of_keys keys.now algs) header.now (jwt_of signed.entry)) (IsBadBy (of_keys keys.now algs) header.now (jwt_of signed.entry))) }
+    ensures { (algs : List Text)
+        → IfOk result
+        (λ answer. Tells answer
+        (IsUnknownBy (of_keys keys.now algs) header.now (jwt_of signed.entry))
+        (IsBadBy (of_keys keys.now algs) header.now (jwt_of signed.entry))) }
 {
     let Some(key) = key_for(keys, header) else {
         return Ok(SignatureAnswer::Unknown);
@@ -83,7 +87,10 @@ fn answer_on(
     header: &Header,
     signed: JwtView<'_>,
 ) -> Result<SignatureAnswer, NoMemory>
-    ensures { IfOk result (λ answer. Tells answer (IsUnknownBy (issuers_of issuers.entry) header.now (jwt_of signed.entry)) (IsBadBy (issuers_of issuers.entry) header.now (jwt_of signed.entry))) }
+    ensures { IfOk result
+        (λ answer. Tells answer
+        (IsUnknownBy (issuers_of issuers.entry) header.now (jwt_of signed.entry))
+        (IsBadBy (issuers_of issuers.entry) header.now (jwt_of signed.entry))) }
 {
     match issuers {
         Issuers::Keys { keys, algs: _ } => answer_of_keys(alloc, keys, header, signed),
@@ -92,7 +99,8 @@ fn answer_on(
 }
 
 fn is_type_refused(asked: Option<&TextBox>, typ: Option<&TextBox>) -> bool
-    ensures { TestTells result (IsTypeRefused (option_copied asked.entry) (option_copied typ.entry)) }
+    ensures { TestTells result
+        (IsTypeRefused (option_copied asked.entry) (option_copied typ.entry)) }
 {
     let Some(name) = asked else {
         return false;
@@ -112,7 +120,8 @@ pub(crate) fn check_signed(
     rules: &Rules<'_>,
 ) -> Result<(), VerifyError>
     ensures ok { OnOk result (IsSigned (jwt_of signed.entry) outer.now rules.now) }
-    ensures refused { IfErr result (λ e. OnFault e (IsSignedFault (jwt_of signed.entry) outer.now rules.now)) }
+    ensures refused { IfErr result
+        (λ e. OnFault e (IsSignedFault (jwt_of signed.entry) outer.now rules.now)) }
 {
     let header = match read_header_with(alloc, reader, signed.protected, outer) {
         Ok(header) => header,

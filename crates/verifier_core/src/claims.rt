@@ -25,7 +25,8 @@ fn has_issuer(payload: &Tree, issuers: &TextList) -> bool
 
 // Whether an issuer is wanted, and the payload names none or another (RFC 7519 section 4.1.1).
 fn is_issuer_refused(payload: &Tree, demands: &Demands<'_>) -> bool
-    ensures { IsTrue result ↔ IsIssuerRefused demands.now.iss (get_of (tree_of payload.now) (codes "iss")) }
+    ensures { IsTrue result
+        ↔ IsIssuerRefused demands.now.iss (get_of (tree_of payload.now) (codes "iss")) }
 {
     match demands.iss {
         Some(issuers) => !has_issuer(payload, issuers),
@@ -35,8 +36,13 @@ fn is_issuer_refused(payload: &Tree, demands: &Demands<'_>) -> bool
 
 // The first of the names that is not the name of a claim.
 fn first_missing(payload: &Tree, names: &TextList) -> Option<usize>
-    ensures none { IfNone result ((i : ℕ) (name : Text) → StandsAt names.now i name → get_of (tree_of payload.now) name ≢ None) }
-    ensures first { IfSome result (IsLeast (λ i. (name : Text) × StandsAt names.now i name × (get_of (tree_of payload.now) name ≡ None))) }
+    ensures none { IfNone result
+        ((i : ℕ) (name : Text) → StandsAt names.now i name
+        → get_of (tree_of payload.now) name ≢ None) }
+    ensures first { IfSome result
+        (IsLeast
+        (λ i. (name : Text) × StandsAt names.now i name
+        × (get_of (tree_of payload.now) name ≡ None))) }
 {
     for i in 0..names.len() {
         let name = names.at(i).unwrap();
@@ -47,8 +53,8 @@ fn first_missing(payload: &Tree, names: &TextList) -> Option<usize>
     None
 }
 
-// Whether the claims of a processed payload are as is asked, at a moment in seconds since 1970. The fault is that of
-// the lowest condition that fails.
+// Whether the claims of a processed payload are as is asked, at a moment in seconds since 1970. The
+// fault is that of the lowest condition that fails.
 pub(crate) fn check_claims(payload: &Tree, demands: &Demands<'_>, now: u64) -> Result<(), Fault>
     ensures passes { OnOk result (NoneFails (ClaimFails (tree_of payload.now) demands.now now)) }
     ensures lowest { IfErr result (IsLowest (ClaimFails (tree_of payload.now) demands.now now)) }

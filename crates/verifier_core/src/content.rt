@@ -1,4 +1,5 @@
-// What is read of a token by the conditions 5 to 13, and what is opened of it by the conditions 14 to 21.
+// What is read of a token by the conditions 5 to 13, and what is opened of it
+// by the conditions 14 to 21.
 ghost use Rattle.std.specs.Prelude.{◌≡◌, ◌≤◌, ◌<◌, ◌-◌, ◌^◌, length, IfOk, IfErr, OnOk};
 ghost use Rattle.sd_outside.specs.Limits.{json_depth_max};
 ghost use Rattle.claim_tree.specs.Tree.{depth};
@@ -27,8 +28,9 @@ use rebuild_core::{ProcessError, process_payload, process_seeded};
 use std::alloc::Global;
 use std::marker::Model;
 
-/// What is read of a token that passes the conditions 5 to 13: its payload, the algorithm of its digests, and what its
-/// disclosures give. It is to be opened, by [`Content::open`] or [`Content::open_payload`].
+/// What is read of a token that passes the conditions 5 to 13: its payload, the
+/// algorithm of its digests, and what its disclosures give. It is to be opened,
+/// by [`Content::open`] or [`Content::open_payload`].
 #[derive(Drop)]
 pub struct Content {
     body: Tree,
@@ -80,9 +82,9 @@ fn judged<T>(processed: Result<T, ProcessError>) -> Result<T, VerifyError>
 }
 
 impl Content {
-    /// Judges a token by the conditions 5 to 13, RFC 9901 section 7.3, and reads what it says. The header, the
-    /// signature, the payload and the disclosures are judged in this order, and the first condition that fails is
-    /// answered.
+    /// Judges a token by the conditions 5 to 13, RFC 9901 section 7.3, and reads what it says. The
+    /// header, the signature, the payload and the disclosures are judged in this order, and the
+    /// first condition that fails is answered.
     pub fn read(
         alloc: Global,
         token: &TokenView<'_>,
@@ -90,7 +92,8 @@ impl Content {
     ) -> Result<Content, VerifyError>
         requires few { length token.now.parts.disclosures < 2 ^ 32 - 1 }
         ensures content { IfOk result (IsContent token.now rules.now) }
-        ensures refused { IfErr result (λ e. OnFault e (IsLowest (TokenFails token.now rules.now))) }
+        ensures refused { IfErr result
+            (λ e. OnFault e (IsLowest (TokenFails token.now rules.now))) }
         ensures unopened { IfErr result (λ e. OnFault e IsUnopened) }
 
         // whose signature is good
@@ -126,20 +129,27 @@ impl Content {
         self.hash
     }
 
-    /// Judges what was read by the conditions 14 to 21, and answers the processed payload, where each node that a
-    /// disclosure shows has the number of the disclosure. `steps` counts the look-ups of digests.
+    /// Judges what was read by the conditions 14 to 21, and answers the
+    /// processed payload, where each node that a disclosure shows has the
+    /// number of the disclosure. `steps` counts the look-ups of digests.
     pub fn open(self, alloc: Global, steps: &mut Steps) -> Result<Marked, VerifyError>
-        ensures checked { OfToken self (λ token rules. IfOk result (λ marked. IsChecked token rules (marked_of marked))) }
-        ensures shallow { IfOk result (λ marked. depth (strip_of (marked_of marked)) ≤ json_depth_max) }
-        ensures opened { OfToken self (λ token rules. IsOpening token rules result steps.old steps.new) }
+        ensures checked { OfToken self
+            (λ token rules. IfOk result (λ marked. IsChecked token rules (marked_of marked))) }
+        ensures shallow { IfOk result
+            (λ marked. depth (strip_of (marked_of marked)) ≤ json_depth_max) }
+        ensures opened { OfToken self
+            (λ token rules. IsOpening token rules result steps.old steps.new) }
     {
         judged(process_seeded(alloc, self.body, self.given, self.seed, steps))
     }
 
-    /// The same, without the marks. Neither copies what the issuer signed or what the disclosures give.
+    /// The same, without the marks. Neither copies what the issuer signed or
+    /// what the disclosures give.
     pub fn open_payload(self, alloc: Global, steps: &mut Steps) -> Result<Tree, VerifyError>
-        ensures checked { OfToken self (λ token rules. IfOk result (λ payload. IsCheckedAs token rules (tree_of payload))) }
-        ensures opened { OfToken self (λ token rules. IsOpening token rules result steps.old steps.new) }
+        ensures checked { OfToken self
+            (λ token rules. IfOk result (λ payload. IsCheckedAs token rules (tree_of payload))) }
+        ensures opened { OfToken self
+            (λ token rules. IsOpening token rules result steps.old steps.new) }
     {
         judged(process_payload(alloc, self.body, self.given, self.seed, steps))
     }

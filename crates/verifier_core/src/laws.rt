@@ -23,51 +23,68 @@ use hmac_sign::Checker;
 
 /// A file says one policy or is refused, and has one fault beside want of memory.
 pub fn one_policy()
-    ensures one { (bytes : List ℕ) (policy other : Policy) → IsPolicyFile bytes policy → IsPolicyFile bytes other → policy ≡ other }
-    ensures not_both { (bytes : List ℕ) (policy : Policy) (fault : FileFault) → IsPolicyFile bytes policy → IsPolicyFileRefused bytes fault → fault ≡ FileFault.Memory }
-    ensures one_fault { (bytes : List ℕ) (fault other : FileFault) → IsPolicyFileRefused bytes fault → IsPolicyFileRefused bytes other
-        → fault ≢ FileFault.Memory → other ≢ FileFault.Memory → fault ≡ other }
+    ensures one { (bytes : List ℕ) (policy other : Policy) → IsPolicyFile bytes policy
+        → IsPolicyFile bytes other → policy ≡ other }
+    ensures not_both { (bytes : List ℕ) (policy : Policy) (fault : FileFault)
+        → IsPolicyFile bytes policy → IsPolicyFileRefused bytes fault → fault ≡ FileFault.Memory }
+    ensures one_fault { (bytes : List ℕ) (fault other : FileFault) → IsPolicyFileRefused bytes fault
+        → IsPolicyFileRefused bytes other → fault ≢ FileFault.Memory → other ≢ FileFault.Memory
+        → fault ≡ other }
 {}
 
-/// A policy of version 1 is that of version 2 with the same members, where `iss` and the audience are lists of one.
+/// A policy of version 1 is that of version 2 with the same members, where
+/// `iss` and the audience are lists of one.
 pub fn version_one()
-    ensures said { (one two : List ℕ) (policy : Policy) → length two ≤ file_max → SaysInTwo one two → IsPolicyFile one policy → IsPolicyFile two policy }
-    ensures equal { (one two : List ℕ) (policy other : Policy) → length two ≤ file_max → SaysInTwo one two → IsPolicyFile one policy → IsPolicyFile two other → policy ≡ other }
+    ensures said { (one two : List ℕ) (policy : Policy) → length two ≤ file_max → SaysInTwo one two
+        → IsPolicyFile one policy → IsPolicyFile two policy }
+    ensures equal { (one two : List ℕ) (policy other : Policy) → length two ≤ file_max
+        → SaysInTwo one two → IsPolicyFile one policy → IsPolicyFile two other → policy ≡ other }
 {}
 
 /// A text under a policy at a moment is accepted with one payload, or refused with one fault.
 pub fn one_verdict()
-    ensures not_both { (content : List ℕ) (policy : Policy) (now : ℕ) (marked : Marked) (fault : Fault)
-        → IsAccepted content policy now marked → IsLowest (Fails content policy now) fault → ⊥ }
+    ensures not_both { (content : List ℕ) (policy : Policy) (now : ℕ) (marked : Marked)
+        (fault : Fault) → IsAccepted content policy now marked
+        → IsLowest (Fails content policy now) fault → ⊥ }
     ensures one_payload { (content : List ℕ) (policy : Policy) (now : ℕ) (marked other : Marked)
-        → IsAccepted content policy now marked → IsAccepted content policy now other → marked ≡ other }
+        → IsAccepted content policy now marked → IsAccepted content policy now other
+        → marked ≡ other }
     ensures one_fault { (content : List ℕ) (policy : Policy) (now : ℕ) (fault other : Fault)
-        → IsLowest (Fails content policy now) fault → IsLowest (Fails content policy now) other → fault ≡ other }
+        → IsLowest (Fails content policy now) fault → IsLowest (Fails content policy now) other
+        → fault ≡ other }
 {}
 
-/// The serializations of a token have one verdict: where one text is read as a token, every text that spells the token
-/// and is not too long is judged alike. Where its unprotected header has nothing but `disclosures` and `kb_jwt`, as
-/// that of a compact text has, so are the compact text of its parts, and the flattened and the general form that
-/// `json_form` writes (RFC 9901 section 8); none of them is too long.
+/// The serializations of a token have one verdict: where one text is read as a token,
+/// every text that spells the token and is not too long is judged alike. Where its
+/// unprotected header has nothing but `disclosures` and `kb_jwt`, as that of a compact
+/// text has, so are the compact text of its parts, and the flattened and the general
+/// form that `json_form` writes (RFC 9901 section 8); none of them is too long.
 pub fn same_verdict()
     ensures spelled { (text other : List ℕ) (token : Token) (policy : Policy) (now : ℕ)
-        → IsToken text token → Spells (trimmed other) token → is_too_long other ≡ false → HaveOneVerdict text other policy now }
+        → IsToken text token → Spells (trimmed other) token → is_too_long other ≡ false
+        → HaveOneVerdict text other policy now }
     ensures compact { (text : List ℕ) (token : Token) (policy : Policy) (now : ℕ)
-        → IsToken text token → token.outer ≡ no_members → HaveOneVerdict text (compact token.parts) policy now }
-    ensures flat { (text : List ℕ) (token : Token) (policy : Policy) (now : ℕ)
-        → IsToken text token → token.outer ≡ no_members → HaveOneVerdict text (json_text (flat_of token)) policy now }
+        → IsToken text token → token.outer ≡ no_members
+        → HaveOneVerdict text (compact token.parts) policy now }
+    ensures flat { (text : List ℕ) (token : Token) (policy : Policy) (now : ℕ) → IsToken text token
+        → token.outer ≡ no_members → HaveOneVerdict text (json_text (flat_of token)) policy now }
     ensures general { (text : List ℕ) (token : Token) (policy : Policy) (now : ℕ)
-        → IsToken text token → token.outer ≡ no_members → HaveOneVerdict text (json_text (general_of token)) policy now }
+        → IsToken text token → token.outer ≡ no_members
+        → HaveOneVerdict text (json_text (general_of token)) policy now }
 {}
 
-/// Where what a caller said to [`judge`](crate::judge) is true and nothing more is to be known, its verdict is that by the
-/// meaning of the signatures: the issuer's, and those of the holder whom the processed payload names. It accepts just what
-/// is accepted by them, and the lowest condition that fails is the same, but that 9 is then 10 and 27 is 30: a key that
-/// the caller does not know makes no good signature. By the meanings a text has one verdict, so they decide what `judge`
-/// answers. The signature of a token is good where a checker says so of the bytes of the question.
+/// Where what a caller said to [`judge`](crate::judge) is true and nothing more is to be known, its
+/// verdict is that by the meaning of the signatures: the issuer's, and those of the holder whom the
+/// processed payload names. It accepts just what is accepted by them, and the lowest condition that
+/// fails is the same, but that 9 is then 10 and 27 is 30: a key that the caller does not know makes
+/// no good signature. By the meanings a text has one verdict, so they decide what `judge` answers.
+/// The signature of a token is good where a checker says so of the bytes of the question.
 pub fn judged_by_meaning<I: Checker, H: Checker>()
-    ensures accepted { (issuer : I) (holder : Tree → H) → AcceptedByMeaning (meanings (I.good issuer) (λ payload. H.good (holder payload))) }
-    ensures refused { (issuer : I) (holder : Tree → H) → RefusedByMeaning (meanings (I.good issuer) (λ payload. H.good (holder payload))) }
-    ensures one_verdict { (issuer : I) (holder : Tree → H) → OneVerdictByMeaning (meanings (I.good issuer) (λ payload. H.good (holder payload))) }
+    ensures accepted { (issuer : I) (holder : Tree → H)
+        → AcceptedByMeaning (meanings (I.good issuer) (λ payload. H.good (holder payload))) }
+    ensures refused { (issuer : I) (holder : Tree → H)
+        → RefusedByMeaning (meanings (I.good issuer) (λ payload. H.good (holder payload))) }
+    ensures one_verdict { (issuer : I) (holder : Tree → H)
+        → OneVerdictByMeaning (meanings (I.good issuer) (λ payload. H.good (holder payload))) }
     ensures answered { (issuer : I) → AnsweredByMeaning (I.good issuer) }
 {}

@@ -46,7 +46,8 @@ pub struct Policy {
     pub algs: TextList,
     /// The type that the header has to name (RFC 7515 section 4.1.9), where one is wanted.
     pub typ: Option<TextBox>,
-    /// The issuers of which the payload has to name one (RFC 7519 section 4.1.1), where one is wanted.
+    /// The issuers of which the payload has to name one (RFC 7519 section
+    /// 4.1.1), where one is wanted.
     pub iss: Option<TextList>,
     /// The names of the claims that the processed payload has to have.
     pub require: TextList,
@@ -129,7 +130,8 @@ fn require_member(alloc: Global, members: &TreeMap) -> Result<TextList, FileFaul
 
 fn skew_member(members: &TreeMap) -> Result<u32, FileFault>
     ensures ok { IfOk result (SaysOr (IsWholeUpTo skew_max) 0 (found members.now Skew)) }
-    ensures refused { IfErr result (IsMemberRefused (optional Skew (IsWholeUpTo skew_max)) members.now) }
+    ensures refused { IfErr result
+        (IsMemberRefused (optional Skew (IsWholeUpTo skew_max)) members.now) }
 {
     match whole_member(members, Field::Skew, SKEW_MAX)? {
         Some(skew) => Ok(skew),
@@ -137,15 +139,17 @@ fn skew_member(members: &TreeMap) -> Result<u32, FileFault>
     }
 }
 
-/// The policy that a file says: a JSON object whose one member that it must have is `keys`, a key set.
+/// The policy that a file says: a JSON object whose one member that it must
+/// have is `keys`, a key set.
 ///
-/// `algs` and `require` are lists of texts, `typ` and `iss` texts, and `skew` is a whole number of seconds. Where they
-/// are missing, the algorithm is HS256, nothing else is wanted, and the clocks do not differ. `binding` is an object of
-/// just `aud` and `nonce`, texts of at most 256 bytes, `keys`, a key set, and `max_age`, a whole number of seconds
-/// below 2^32; where it is missing, no key binding token is asked for. Another member is a fault.
+/// `algs` and `require` are lists of texts, `typ` and `iss` texts, and `skew` is a whole number of
+/// seconds. Where they are missing, the algorithm is HS256, nothing else is wanted, and the clocks
+/// do not differ. `binding` is an object of just `aud` and `nonce`, texts of at most 256 bytes,
+/// `keys`, a key set, and `max_age`, a whole number of seconds below 2^32; where it is missing, no
+/// key binding token is asked for. Another member is a fault.
 ///
-/// `version` is 1 or 2, and 1 where it is missing. In version 2 `iss` is a list of at least one text, and `aud` one of
-/// 1 to 16 texts.
+/// `version` is 1 or 2, and 1 where it is missing. In version 2 `iss` is a list of at least one
+/// text, and `aud` one of 1 to 16 texts.
 pub fn read_policy(alloc: Global, bytes: &[u8]) -> Result<Policy, FileFault>
     ensures ok { IfOk result (IsPolicyFile bytes.now) }
     ensures refused { IfErr result (IsPolicyFileRefused bytes.now) }

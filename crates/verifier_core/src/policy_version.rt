@@ -60,8 +60,11 @@ fn list_of(alloc: Global, text: TextBox) -> Result<TextList, NoMemory>
 }
 
 fn one_issuer(alloc: Global, tree: &Tree) -> Result<Option<TextList>, NoMemory>
-    ensures issuers { IfOk result (λ issuers. IfSome issuers (IsIssuers seen.PolicyVersion.One (tree_of tree.now))) }
-    ensures none { IfOk result (λ issuers. IfNone issuers (HasValue (IsIssuers seen.PolicyVersion.One) (tree_of tree.now) → ⊥)) }
+    ensures issuers { IfOk result
+        (λ issuers. IfSome issuers (IsIssuers seen.PolicyVersion.One (tree_of tree.now))) }
+    ensures none { IfOk result
+        (λ issuers.
+        IfNone issuers (HasValue (IsIssuers seen.PolicyVersion.One) (tree_of tree.now) → ⊥)) }
 {
     let Tree::Text(text) = tree else {
         return Ok(None);
@@ -71,8 +74,11 @@ fn one_issuer(alloc: Global, tree: &Tree) -> Result<Option<TextList>, NoMemory>
 }
 
 fn listed_issuers(alloc: Global, tree: &Tree) -> Result<Option<TextList>, NoMemory>
-    ensures issuers { IfOk result (λ issuers. IfSome issuers (IsIssuers seen.PolicyVersion.Two (tree_of tree.now))) }
-    ensures none { IfOk result (λ issuers. IfNone issuers (HasValue (IsIssuers seen.PolicyVersion.Two) (tree_of tree.now) → ⊥)) }
+    ensures issuers { IfOk result
+        (λ issuers. IfSome issuers (IsIssuers seen.PolicyVersion.Two (tree_of tree.now))) }
+    ensures none { IfOk result
+        (λ issuers.
+        IfNone issuers (HasValue (IsIssuers seen.PolicyVersion.Two) (tree_of tree.now) → ⊥)) }
 {
     let Tree::List(list) = tree else {
         return Ok(None);
@@ -91,8 +97,10 @@ fn issuers_of(
     tree: &Tree,
     version: PolicyVersion,
 ) -> Result<Option<TextList>, NoMemory>
-    ensures issuers { IfOk result (λ issuers. IfSome issuers (IsIssuers version (tree_of tree.now))) }
-    ensures none { IfOk result (λ issuers. IfNone issuers (HasValue (IsIssuers version) (tree_of tree.now) → ⊥)) }
+    ensures issuers { IfOk result
+        (λ issuers. IfSome issuers (IsIssuers version (tree_of tree.now))) }
+    ensures none { IfOk result
+        (λ issuers. IfNone issuers (HasValue (IsIssuers version) (tree_of tree.now) → ⊥)) }
 {
     match version {
         PolicyVersion::One => one_issuer(alloc, tree),
@@ -107,7 +115,8 @@ pub(crate) fn issuers_member(
     version: PolicyVersion,
 ) -> Result<Option<TextList>, FileFault>
     ensures ok { IfOk result (MaySay (IsIssuers version) (found members.now Iss)) }
-    ensures refused { IfErr result (IsMemberRefused (optional Iss (IsIssuers version)) members.now) }
+    ensures refused { IfErr result
+        (IsMemberRefused (optional Iss (IsIssuers version)) members.now) }
 {
     let Some(tree) = members.get(Field::Iss.word()) else {
         return Ok(None);
@@ -119,8 +128,14 @@ pub(crate) fn issuers_member(
 }
 
 fn one_audience(alloc: Global, members: &TreeMap) -> Result<Option<TextList>, NoMemory>
-    ensures audiences { IfOk result (λ texts. IfSome texts (Says (IsAudiences seen.PolicyVersion.One) (member_named members.now (codes "aud")))) }
-    ensures none { IfOk result (λ texts. IfNone texts ((list : List Text) → Says (IsAudiences seen.PolicyVersion.One) (member_named members.now (codes "aud")) list → ⊥)) }
+    ensures audiences { IfOk result
+        (λ texts. IfSome texts
+        (Says (IsAudiences seen.PolicyVersion.One) (member_named members.now (codes "aud")))) }
+    ensures none { IfOk result
+        (λ texts. IfNone texts
+        ((list : List Text)
+        → Says (IsAudiences seen.PolicyVersion.One) (member_named members.now (codes "aud"))
+        list → ⊥)) }
 {
     match short_text_in(alloc, members, "aud")? {
         Some(text) => Ok(Some(list_of(alloc, text)?)),
@@ -148,8 +163,14 @@ fn are_audiences(texts: &TextList) -> bool
 }
 
 fn listed_audiences(alloc: Global, members: &TreeMap) -> Result<Option<TextList>, NoMemory>
-    ensures audiences { IfOk result (λ texts. IfSome texts (Says (IsAudiences seen.PolicyVersion.Two) (member_named members.now (codes "aud")))) }
-    ensures none { IfOk result (λ texts. IfNone texts ((list : List Text) → Says (IsAudiences seen.PolicyVersion.Two) (member_named members.now (codes "aud")) list → ⊥)) }
+    ensures audiences { IfOk result
+        (λ texts. IfSome texts
+        (Says (IsAudiences seen.PolicyVersion.Two) (member_named members.now (codes "aud")))) }
+    ensures none { IfOk result
+        (λ texts. IfNone texts
+        ((list : List Text)
+        → Says (IsAudiences seen.PolicyVersion.Two) (member_named members.now (codes "aud"))
+        list → ⊥)) }
 {
     let Some(Tree::List(list)) = members.get("aud") else {
         return Ok(None);
@@ -169,8 +190,13 @@ pub(crate) fn audiences_in(
     members: &TreeMap,
     version: PolicyVersion,
 ) -> Result<Option<TextList>, NoMemory>
-    ensures audiences { IfOk result (λ texts. IfSome texts (Says (IsAudiences version) (member_named members.now (codes "aud")))) }
-    ensures none { IfOk result (λ texts. IfNone texts ((list : List Text) → Says (IsAudiences version) (member_named members.now (codes "aud")) list → ⊥)) }
+    ensures audiences { IfOk result
+        (λ texts.
+        IfSome texts (Says (IsAudiences version) (member_named members.now (codes "aud")))) }
+    ensures none { IfOk result
+        (λ texts. IfNone texts
+        ((list : List Text)
+        → Says (IsAudiences version) (member_named members.now (codes "aud")) list → ⊥)) }
 {
     match version {
         PolicyVersion::One => one_audience(alloc, members),

@@ -51,8 +51,8 @@ impl<'a> Model for Rules<'a> {
     ghost view = { λ r. record { issuers = issuers_of r.issuers; typ = option_copied r.typ } };
 }
 
-/// What is asked of a token file: of the token itself, of the claims of its processed payload, and of a key binding
-/// token, where one is asked for.
+/// What is asked of a token file: of the token itself, of the claims of its processed payload, and
+/// of a key binding token, where one is asked for.
 #[derive(Drop)]
 pub(crate) struct Demands<'a> {
     pub(crate) rules: Rules<'a>,
@@ -69,5 +69,11 @@ impl<'a> Model for Demands<'a> {
 
     ghost Value = { Seen };
 
-    ghost view = { λ d. record { rules = d.rules; iss = option_copied d.iss; require = d.require.now; skew = d.skew; binding = option_map rules_seen d.binding } };
+    ghost view = { λ d. record {
+      rules = d.rules;
+      iss = option_copied d.iss;
+      require = d.require.now;
+      skew = d.skew;
+      binding = option_map rules_seen d.binding;
+    } };
 }

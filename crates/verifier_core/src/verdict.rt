@@ -53,9 +53,11 @@ pub(crate) fn read_content(
     requires few { length token.now.parts.disclosures < 2 ^ 32 - 1 }
     ensures sent { OnOk result (IsBindingMissing demands.now token.now.parts → ⊥) }
     ensures content { IfOk result (IsContent token.now demands.now.rules) }
-    ensures refused { (text : List ℕ) (now : ℕ) → IsToken text token.now → IfErr result (λ e. OnFault e (IsLowest (FailsFor text demands.now now))) }
+    ensures refused { (text : List ℕ) (now : ℕ) → IsToken text token.now
+        → IfErr result (λ e. OnFault e (IsLowest (FailsFor text demands.now now))) }
     ensures unopened { IfErr result (λ e. OnFault e IsUnopened) }
-    ensures signed { OnOk result (IsSigned token.now.parts.signed token.now.outer demands.now.rules) }
+    ensures signed { OnOk result
+        (IsSigned token.now.parts.signed token.now.outer demands.now.rules) }
     ensures early { IfErr result (λ e. OnFault e (IsEarlyOrSigned token.now demands.now.rules)) }
 {
     let view = token.view();
@@ -72,7 +74,8 @@ fn read<'a>(
     demands: &Demands<'_>,
 ) -> Result<(TokenText<'a>, Content), VerifyError>
     ensures read { IfOk result (λ r. IsRead text.now demands.now r.0 r.1) }
-    ensures refused { (now : ℕ) → IfErr result (λ e. OnFault e (IsLowest (FailsFor text.now demands.now now))) }
+    ensures refused { (now : ℕ)
+        → IfErr result (λ e. OnFault e (IsLowest (FailsFor text.now demands.now now))) }
     ensures no_memory { FailsAsCompact text.now → result ≢ Err VerifyError.Memory }
 {
     let token = match read_text(alloc, text) {
@@ -92,16 +95,22 @@ trait Opened: Drop {
 
     // Judges what was read by the conditions 14 to 21.
     fn open(content: Content, alloc: Global, steps: &mut Steps) -> Result<Self, VerifyError>
-        ensures checked { OfToken content (λ token rules. IfOk result (λ opened. (marked : SeenMarked) × IsChecked token rules marked × Shows opened marked)) }
-        ensures opened { OfToken content (λ token rules. IsOpening token rules result steps.old steps.new) };
+        ensures checked { OfToken content
+            (λ token rules. IfOk result
+            (λ opened.
+            (marked : SeenMarked) × IsChecked token rules marked × Shows opened marked)) }
+        ensures opened { OfToken content
+            (λ token rules. IsOpening token rules result steps.old steps.new) };
 
     // The processed payload.
     fn payload(&self) -> &Tree
-        ensures { (marked : SeenMarked) → Shows self.now marked → tree_of result.now ≡ strip_of marked };
+        ensures { (marked : SeenMarked) → Shows self.now marked
+            → tree_of result.now ≡ strip_of marked };
 }
 
 impl Opened for Accepted {
-    ghost Shows = { λ accepted marked. (marked_of accepted.marked ≡ marked) × (tree_of accepted.payload ≡ strip_of marked) };
+    ghost Shows = { λ accepted marked.
+        (marked_of accepted.marked ≡ marked) × (tree_of accepted.payload ≡ strip_of marked) };
 
     fn open(content: Content, alloc: Global, steps: &mut Steps) -> Result<Accepted, VerifyError> {
         let marked = match content.open(alloc, steps) {
@@ -139,7 +148,9 @@ fn judged<T: Opened>(
     now: u64,
     steps: &mut Steps,
 ) -> Result<T, VerifyError>
-    ensures accepted { IfOk result (λ opened. (marked : SeenMarked) × IsAcceptedFor text.now demands.now now marked × T.Shows opened marked) }
+    ensures accepted { IfOk result
+        (λ opened. (marked : SeenMarked) × IsAcceptedFor text.now demands.now now marked
+        × T.Shows opened marked) }
     ensures refused { IfErr result (λ e. OnFault e (IsLowest (FailsFor text.now demands.now now))) }
     ensures verdict { IsVerdictFor text.now demands.now now result steps.old steps.new }
 {
@@ -163,12 +174,13 @@ fn judged<T: Opened>(
     Ok(opened)
 }
 
-/// Verifies a token as it comes from a file, RFC 9901 section 7.3, at a moment in seconds since 1970. The token is in
-/// the compact serialization or, where its text begins with `{`, in a JSON one (section 8).
+/// Verifies a token as it comes from a file, RFC 9901 section 7.3, at a moment
+/// in seconds since 1970. The token is in the compact serialization or, where
+/// its text begins with `{`, in a JSON one (section 8).
 ///
-/// The conditions 1 to 38 are judged in the order of their numbers, and the first that fails is answered with its least
-/// place. A key binding token that is there without being asked for is read as grammar and otherwise ignored. `steps`
-/// counts the look-ups of digests.
+/// The conditions 1 to 38 are judged in the order of their numbers, and the first that fails is
+/// answered with its least place. A key binding token that is there without being asked for is read
+/// as grammar and otherwise ignored. `steps` counts the look-ups of digests.
 pub fn verify(
     alloc: Global,
     text: &[u8],
@@ -193,7 +205,8 @@ pub fn verify_payload(
     now: u64,
     steps: &mut Steps,
 ) -> Result<Tree, VerifyError>
-    ensures accepted { IfOk result (λ payload. IsAcceptedAs text.now policy.now now (tree_of payload)) }
+    ensures accepted { IfOk result
+        (λ payload. IsAcceptedAs text.now policy.now now (tree_of payload)) }
     ensures bounded { IfOk result (λ payload. IsBounded text.now (tree_of payload)) }
     ensures refused { IfErr result (λ e. OnFault e (IsLowest (Fails text.now policy.now now))) }
     ensures verdict { IsVerdict text.now policy.now now result steps.old steps.new }

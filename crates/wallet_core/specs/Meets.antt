@@ -18,10 +18,11 @@ asked_places query = query.want ++ map (λ equal. equal.at) query.equal
 
 -- the payload has each value at its place
 abbrev pub HasValues : Tree → List Equal → Type 0
-HasValues payload equal = (one : Equal) → In one equal → tree_at payload one.at ≡ Some (tree_of one.value)
+HasValues payload equal =
+    (one : Equal) → In one equal → tree_at payload one.at ≡ Some (tree_of one.value)
 
--- with each mark the set has all above it; each place of the query is there, with its value where one is asked for; and the set keeps
--- each mark on the way to such a place
+-- with each mark the set has all above it; each place of the query is there, with its value where
+-- one is asked for; and the set keeps each mark on the way to such a place
 pub record Serves (marked : Marked) (query : Query) (s : ℕ → Bool) : Type 0 where
   pub closed : IsClosed marked s
   pub there : AtNone (IsMissing (strip marked) (asked_places query))
@@ -29,14 +30,17 @@ pub record Serves (marked : Marked) (query : Query) (s : ℕ → Bool) : Type 0 
   pub keeps : KeepsTheWay marked (asked_places query) s
 
 -- the set serves the query, and the rule allows the place of each mark of it, and doesn't refuse it
-pub record Meets {F : Type 0} (answers : RuleAnswers F) (rule : F) (marked : Marked) (query : Query) (s : ℕ → Bool) : Type 0 where
+pub record Meets {F : Type 0} (answers : RuleAnswers F) (rule : F) (marked : Marked) (query : Query)
+    (s : ℕ → Bool) : Type 0 where
   pub serves : Serves marked query s
   pub allowed : AllAllowed answers rule marked s
   pub unrefused : NoneRefused answers rule marked s
 
 -- ---- of a rule that may give two answers for one place
 
--- the set serves the query, and the rule can't refuse a place: this is so of each set that meets the query
-pub record CantFail {F : Type 0} (answers : RuleAnswers F) (rule : F) (marked : Marked) (query : Query) (s : ℕ → Bool) : Type 0 where
+-- the set serves the query, and the rule can't refuse a place: this is so of
+-- each set that meets the query
+pub record CantFail {F : Type 0} (answers : RuleAnswers F) (rule : F) (marked : Marked)
+    (query : Query) (s : ℕ → Bool) : Type 0 where
   pub serves : Serves marked query s
   pub unrefused : NoneRefused answers rule marked s

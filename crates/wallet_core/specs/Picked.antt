@@ -11,8 +11,10 @@ use Rattle.wallet_core.specs.Usable.{IsUsable}
 use Rattle.wallet_core.specs.declared.answering.Picked.{Picked}
 use Rattle.wallet_core.specs.declared.query.Query.{Query}
 
--- what is sent of this usable credential: the disclosures of its token whose marks are in such a set, and no key binding token
-pub record IsPicked (IsSuch : Marked → Query → (ℕ → Bool) → Type 0) (held : List Text) (query : Query) (choice : Picked) : Type 0 where
+-- what is sent of this usable credential: the disclosures of its token whose
+-- marks are in such a set, and no key binding token
+pub record IsPicked (IsSuch : Marked → Query → (ℕ → Bool) → Type 0) (held : List Text)
+    (query : Query) (choice : Picked) : Type 0 where
   pub content : Text
   pub stands : StandsAt held choice.index content
   pub token : Token
@@ -27,14 +29,19 @@ abbrev pub sent : (ℕ → Bool) → Token → ℕ
 sent s token = length (picked s token.parts.disclosures)
 
 -- what is so of each usable credential and each such set of its marks
-abbrev pub OfUsable : (Marked → Query → (ℕ → Bool) → Type 0) → List Text → Query → (ℕ → Token → (ℕ → Bool) → Type 0) → Type 0
+abbrev pub OfUsable : (Marked → Query → (ℕ → Bool) → Type 0) → List Text → Query
+    → (ℕ → Token → (ℕ → Bool) → Type 0) → Type 0
 OfUsable IsSuch held query IsSo =
-    (j : ℕ) (content : Text) (token : Token) (marked : Marked) (s : ℕ → Bool) → StandsAt held j content → IsUsable content query.keys token marked → IsSuch marked query s → IsSo j token s
+    (j : ℕ) (content : Text) (token : Token) (marked : Marked) (s : ℕ → Bool)
+    → StandsAt held j content → IsUsable content query.keys token marked → IsSuch marked query s
+    → IsSo j token s
 
 -- no usable credential answers the query with fewer disclosures, and none before it with as many
 abbrev pub IsFewest : {F : Type 0} → RuleAnswers F → F → List Text → Query → Picked → Type 0
 IsFewest answers rule held query choice =
-    OfUsable (CantFail answers rule) held query (λ j token s. (length choice.parts.disclosures ≤ sent s token) × (sent s token ≡ length choice.parts.disclosures → choice.index ≤ j))
+    OfUsable (CantFail answers rule) held query
+    (λ j token s. (length choice.parts.disclosures ≤ sent s token)
+    × (sent s token ≡ length choice.parts.disclosures → choice.index ≤ j))
 
 -- no usable credential answers the query
 abbrev pub HasNoAnswer : {F : Type 0} → RuleAnswers F → F → List Text → Query → Type 0

@@ -28,7 +28,9 @@ pub record IsEqual (t : Tree) (equal : query.Equal) : Type 0 where
 
 -- the members of a query
 abbrev pub query_table : List Entry
-query_table = required Keys IsKeySet ∷ optional Want (IsListOf IsPointer) ∷ optional Equal (IsListOf IsEqual) ∷ optional Never (IsListOf IsPointer) ∷ []
+query_table =
+    required Keys IsKeySet ∷ optional Want (IsListOf IsPointer) ∷ optional Equal (IsListOf IsEqual)
+    ∷ optional Never (IsListOf IsPointer) ∷ []
 
 -- the file says this
 pub record IsQueryFile (bytes : Text) (said : QueryFile) : Type 0 where

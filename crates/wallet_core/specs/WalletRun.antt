@@ -23,9 +23,11 @@ use Rattle.wallet_core.specs.declared.query_file.QueryFile.{QueryFile}
 
 -- the number of the credential that is picked, and the compact text of what it presents
 abbrev pub picked_text : Picked → List ℕ
-picked_text choice = line (codes "credential " ++ decimal choice.index) ++ line (compact choice.parts)
+picked_text choice =
+    line (codes "credential " ++ decimal choice.index) ++ line (compact choice.parts)
 
--- the credential with the fewest disclosures that answer the query, under the rule that shows no place to which a path of `never` leads
+-- the credential with the fewest disclosures that answer the query, under the rule that shows no
+-- place to which a path of `never` leads
 pub record PicksFewest (query_file : List ℕ) (held : List (List ℕ)) (answer : List ℕ) : Type 0 where
   pub said : QueryFile
   pub is_query : IsQueryFile query_file said
@@ -47,7 +49,9 @@ pub record PicksNone (query_file : List ℕ) (held : List (List ℕ)) (text : Li
 
 -- or the query file is not of its form
 abbrev pub WalletAnswers : List ℕ → List (List ℕ) → Reply → Type 0
-WalletAnswers query_file held reply = Replies (PicksFewest query_file held) (PicksNone query_file held) (TellsFileFault (IsQueryFileRefused query_file)) reply
+WalletAnswers query_file held reply =
+    Replies (PicksFewest query_file held) (PicksNone query_file held)
+    (TellsFileFault (IsQueryFileRefused query_file)) reply
 
 -- ---- over what the cabinet holds
 
@@ -58,7 +62,8 @@ pub record IsWallet (words : List (List ℕ)) (query : List ℕ) (tokens : List 
   pub within : length tokens ≤ tokens_max
 
 -- the reply over the files with these names
-pub record PicksFromFiles (holds : List ℕ → Option (List ℕ)) (query : List ℕ) (tokens : List (List ℕ)) (reply : Reply) : Type 0 where
+pub record PicksFromFiles (holds : List ℕ → Option (List ℕ)) (query : List ℕ)
+    (tokens : List (List ℕ)) (reply : Reply) : Type 0 where
   pub query_file : List ℕ
   pub held : List (List ℕ)
   pub fetched : IsFetched holds query query_file
@@ -68,4 +73,6 @@ pub record PicksFromFiles (holds : List ℕ → Option (List ℕ)) (query : List
 -- the words ask for a query file and token files, by their names
 abbrev pub WalletEnds : List (List ℕ) → Outside → Outside → Status → Type 0
 WalletEnds words before after status =
-    RunEnds {Asked = List ℕ × List (List ℕ)} (λ names. IsWallet words names.0 names.1) (λ names reply. PicksFromFiles before.holds names.0 names.1 reply) (λ names word missed. MissesWord (names.0 ∷ names.1) word missed) before after status
+    RunEnds {Asked = List ℕ × List (List ℕ)} (λ names. IsWallet words names.0 names.1)
+    (λ names reply. PicksFromFiles before.holds names.0 names.1 reply)
+    (λ names word missed. MissesWord (names.0 ∷ names.1) word missed) before after status

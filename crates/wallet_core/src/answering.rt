@@ -38,13 +38,14 @@ pub struct Picked {
     pub parts: Parts,
 }
 
-/// Of the credentials that may be used and answer the query, the one that needs the fewest disclosures for it, and of
-/// those the first.
+/// Of the credentials that may be used and answer the query, the one that needs the fewest
+/// disclosures for it, and of those the first.
 ///
-/// A credential may be used if it has no key binding token, and the conditions 1 to 21, but 8, RFC 9901 section 7.3, do
-/// not fail. It answers the query if it has each place, with the value that is asked for, and the rule allows the place
-/// of each disclosure on the way. Each credential is judged once, and one processed payload is held at a time. `steps`
-/// counts the look-ups of digests.
+/// A credential may be used if it has no key binding token, and the conditions
+/// 1 to 21, but 8, RFC 9901 section 7.3, do not fail. It answers the query if
+/// it has each place, with the value that is asked for, and the rule allows the
+/// place of each disclosure on the way. Each credential is judged once, and one
+/// processed payload is held at a time. `steps` counts the look-ups of digests.
 pub fn answer<F: Fn(&Path) -> bool>(
     alloc: Global,
     held: &CredentialList,
@@ -54,7 +55,8 @@ pub fn answer<F: Fn(&Path) -> bool>(
 ) -> Result<Picked, WalletError>
     requires callable { F.IsAlwaysCallable consent.now }
     ensures picked { IfOk result (IsPicked (MayMeet F.Fn consent.now) held.now query.now) }
-    ensures meets { IsDecided F.Fn consent.now → IfOk result (IsPicked (Meets F.Fn consent.now) held.now query.now) }
+    ensures meets { IsDecided F.Fn consent.now
+        → IfOk result (IsPicked (Meets F.Fn consent.now) held.now query.now) }
     ensures fewest { IfOk result (IsFewest F.Fn consent.now held.now query.now) }
     ensures words { IfOk result (λ choice. AreWords choice.parts) }
     ensures none { IsErrOf result NoAnswer → HasNoAnswer F.Fn consent.now held.now query.now }
@@ -86,7 +88,8 @@ fn asked_places(alloc: Global, query: &Query) -> Result<PathList, NoMemory>
 // What was best so far, or these parts where they have fewer disclosures.
 fn better(best: Option<Picked>, index: usize, sent: Option<Parts>) -> Option<Picked>
     ensures better { IsBetter best index sent result }
-    ensures words { IfSome best (λ choice. AreWords choice.parts) → IfSome sent AreWords → IfSome result (λ choice. AreWords choice.parts) }
+    ensures words { IfSome best (λ choice. AreWords choice.parts) → IfSome sent AreWords
+        → IfSome result (λ choice. AreWords choice.parts) }
 {
     let Some(parts) = sent else {
         return best;
@@ -140,7 +143,8 @@ fn token_parts<F: Fn(&Path) -> bool>(
     ensures told { IfOk result (IsToldOf F.Fn consent.now query.now token.now) }
     ensures words { IfOk result (λ sent. IfSome sent AreWords) }
     ensures within { IsCountedWithin token.now steps.old steps.new }
-    ensures uncounted { IsUncounted (TokenFails token.now (held_rules query.now.keys)) steps.old steps.new }
+    ensures uncounted { IsUncounted (TokenFails token.now (held_rules query.now.keys)) steps.old
+        steps.new }
 {
     let Some(marked) = open_held(alloc, token, &query.keys, steps)? else {
         return Ok(None);
@@ -159,10 +163,15 @@ fn open_held(
     steps: &mut Steps,
 ) -> Result<Option<Marked>, NoMemory>
     requires few { length token.now.parts.disclosures < 2 ^ 32 - 1 }
-    ensures checked { IfOk result (λ opened. IfSome opened (λ marked. IsChecked token.now (held_rules keys.now) (marked_of marked))) }
-    ensures none { IfOk result (λ opened. IfNone opened ((marked : SeenMarked) → IsChecked token.now (held_rules keys.now) marked → ⊥)) }
+    ensures checked { IfOk result
+        (λ opened. IfSome opened
+        (λ marked. IsChecked token.now (held_rules keys.now) (marked_of marked))) }
+    ensures none { IfOk result
+        (λ opened. IfNone opened
+        ((marked : SeenMarked) → IsChecked token.now (held_rules keys.now) marked → ⊥)) }
     ensures within { IsCountedWithin token.now steps.old steps.new }
-    ensures uncounted { IsUncounted (TokenFails token.now (held_rules keys.now)) steps.old steps.new }
+    ensures uncounted { IsUncounted (TokenFails token.now (held_rules keys.now)) steps.old
+        steps.new }
 {
     let content = match check_held(alloc, token, keys) {
         Ok(content) => content,
@@ -176,7 +185,8 @@ fn open_held(
     }
 }
 
-// The marks on the way to each place of the query, where each is there with its value, and the rule allows them.
+// The marks on the way to each place of the query, where each is there with its
+// value, and the rule allows them.
 fn chosen_marks<F: Fn(&Path) -> bool>(
     alloc: Global,
     marked: &Marked,
@@ -188,8 +198,10 @@ fn chosen_marks<F: Fn(&Path) -> bool>(
     requires asked { asked.now ≡ asked_of query.now }
     requires depth { depth (strip (marked_of marked.now)) ≤ json_depth_max }
     requires unmixed { IsUnmixed (marked_of marked.now) }
-    ensures least { IfOk result (λ chosen. IfSome chosen (IsLeastSet F.Fn consent.now (marked_of marked.now) query.now)) }
-    ensures none { IfOk result (λ chosen. IfNone chosen (IsUnanswered F.Fn consent.now (marked_of marked.now) query.now)) }
+    ensures least { IfOk result
+        (λ chosen. IfSome chosen (IsLeastSet F.Fn consent.now (marked_of marked.now) query.now)) }
+    ensures none { IfOk result
+        (λ chosen. IfNone chosen (IsUnanswered F.Fn consent.now (marked_of marked.now) query.now)) }
 {
     let chosen = match choose(alloc, marked, asked) {
         Ok(chosen) => chosen,

@@ -14,22 +14,31 @@ ghost use Rattle.wallet_core.specs.declared.query_file.QueryFile.{QueryFile};
 
 /// A file says one query or is refused, and has one fault beside want of memory.
 pub fn one_query()
-    ensures one { (bytes : List ℕ) (said other : QueryFile) → IsQueryFile bytes said → IsQueryFile bytes other → said ≡ other }
-    ensures not_both { (bytes : List ℕ) (said : QueryFile) (fault : FileFault) → IsQueryFile bytes said → IsQueryFileRefused bytes fault → fault ≡ FileFault.Memory }
-    ensures one_fault { (bytes : List ℕ) (fault other : FileFault) → IsQueryFileRefused bytes fault → IsQueryFileRefused bytes other
-        → fault ≢ FileFault.Memory → other ≢ FileFault.Memory → fault ≡ other }
+    ensures one { (bytes : List ℕ) (said other : QueryFile) → IsQueryFile bytes said
+        → IsQueryFile bytes other → said ≡ other }
+    ensures not_both { (bytes : List ℕ) (said : QueryFile) (fault : FileFault)
+        → IsQueryFile bytes said → IsQueryFileRefused bytes fault → fault ≡ FileFault.Memory }
+    ensures one_fault { (bytes : List ℕ) (fault other : FileFault) → IsQueryFileRefused bytes fault
+        → IsQueryFileRefused bytes other → fault ≢ FileFault.Memory → other ≢ FileFault.Memory
+        → fault ≡ other }
 {}
 
 /// The definition of a wallet has at most one answer over a query file and token files.
 pub fn one_answer()
-    ensures { (query_file : List ℕ) (held : List (List ℕ)) (v w : Reply) → WalletAnswers query_file held v → WalletAnswers query_file held w → v ≡ w }
+    ensures { (query_file : List ℕ) (held : List (List ℕ)) (v w : Reply)
+        → WalletAnswers query_file held v → WalletAnswers query_file held w → v ≡ w }
 {}
 
-/// Where the words are those of a wallet, the cabinet tells its files, the definition gives an answer over them, and
-/// neither the cabinet nor `out` failed, that answer was written, or there was no memory.
+/// Where the words are those of a wallet, the cabinet tells its files, the
+/// definition gives an answer over them, and neither the cabinet nor `out`
+/// failed, that answer was written, or there was no memory.
 pub fn completes()
-    ensures { (words : List (List ℕ)) (before after : Outside) (status : Status) (query : List ℕ) (tokens : List (List ℕ)) (query_file : List ℕ) (held : List (List ℕ)) (answer : List ℕ)
-        → IsWallet words query tokens → IsFileTold before.holds query query_file → AllZip (IsFileTold before.holds) tokens held → WalletAnswers query_file held (gives answer)
-        → (Rose before.faults after.faults → ⊥) → (Rose before.out.faults after.out.faults → ⊥) → WalletEnds words before after status
-        → ((status ≡ Status.Done) × Appends before.out.written after.out.written answer) ⊎ (status ≡ Status.Memory) }
+    ensures { (words : List (List ℕ)) (before after : Outside) (status : Status) (query : List ℕ)
+        (tokens : List (List ℕ)) (query_file : List ℕ) (held : List (List ℕ)) (answer : List ℕ)
+        → IsWallet words query tokens → IsFileTold before.holds query query_file
+        → AllZip (IsFileTold before.holds) tokens held
+        → WalletAnswers query_file held (gives answer) → (Rose before.faults after.faults → ⊥)
+        → (Rose before.out.faults after.out.faults → ⊥) → WalletEnds words before after status
+        → ((status ≡ Status.Done) × Appends before.out.written after.out.written answer)
+        ⊎ (status ≡ Status.Memory) }
 {}

@@ -14,7 +14,8 @@ pub struct Equal {
 /// Values that claims are to have. Contracts see the list of them.
 pub type EqualList = ListOf<Equal>;
 
-/// The token files that a holder has, in the order in which they are asked. Contracts see the list of their bytes.
+/// The token files that a holder has, in the order in which they are asked.
+/// Contracts see the list of their bytes.
 pub type CredentialList = ListOf<ByteBox>;
 
 /// What is asked of a credential.

@@ -69,8 +69,11 @@ fn equal_of(alloc: Global, tree: &Tree) -> Result<Option<Equal>, NoMemory>
 
 #[tactic(auto, using(claim_tree::proofs::ListForms::no_element, claim_tree::proofs::ListForms::each_turn))]
 fn equals_of(alloc: Global, trees: &[Tree]) -> Result<Option<EqualList>, NoMemory>
-    ensures equals { IfOk result (λ equals. IfSome equals (EachSays IsEqual (elements_of trees.now))) }
-    ensures none { IfOk result (λ equals. IfNone equals ((list : List Seen) → EachSays IsEqual (elements_of trees.now) list → ⊥)) }
+    ensures equals { IfOk result
+        (λ equals. IfSome equals (EachSays IsEqual (elements_of trees.now))) }
+    ensures none { IfOk result
+        (λ equals. IfNone equals
+        ((list : List Seen) → EachSays IsEqual (elements_of trees.now) list → ⊥)) }
 {
     let mut equals = EqualList::new(alloc);
     for tree in trees {
@@ -84,7 +87,8 @@ fn equals_of(alloc: Global, trees: &[Tree]) -> Result<Option<EqualList>, NoMemor
 
 fn equal_member(alloc: Global, members: &TreeMap) -> Result<EqualList, FileFault>
     ensures ok { IfOk result (SaysOr (IsListOf IsEqual) [] (found members.now field.Equal)) }
-    ensures refused { IfErr result (IsMemberRefused (optional field.Equal (IsListOf IsEqual)) members.now) }
+    ensures refused { IfErr result
+        (IsMemberRefused (optional field.Equal (IsListOf IsEqual)) members.now) }
 {
     let Some(tree) = members.get(Field::Equal.word()) else {
         return Ok(EqualList::new(alloc));
@@ -98,11 +102,12 @@ fn equal_member(alloc: Global, members: &TreeMap) -> Result<EqualList, FileFault
     }
 }
 
-/// The query that a file says: a JSON object whose one member that it must have is `keys`, the key set of the issuers.
+/// The query that a file says: a JSON object whose one member that it must have
+/// is `keys`, the key set of the issuers.
 ///
-/// `want` and `never` are lists of JSON Pointers. `equal` is a list of objects of just `at`, a JSON Pointer, and
-/// `value`, which is null, a flag, a whole number or a text. Where one of the three is missing, it is empty. Another
-/// member is a fault.
+/// `want` and `never` are lists of JSON Pointers. `equal` is a list of objects of just `at`, a JSON
+/// Pointer, and `value`, which is null, a flag, a whole number or a text. Where one of the three is
+/// missing, it is empty. Another member is a fault.
 #[tactic(auto, using(crate::proofs::QueryFaults::refused_at))]
 pub fn read_query(alloc: Global, bytes: &[u8]) -> Result<QueryFile, FileFault>
     ensures ok { IfOk result (IsQueryFile bytes.now) }

@@ -28,11 +28,16 @@ fn fetch_tokens<C: Cabinet>(
     cab: &mut C,
     names: &[String],
 ) -> Result<CredentialList, Stop>
-    ensures all { IfOk result (λ held. AllZip (IsFetched (C.holds cab.old)) (map string_bytes names.now) held) }
+    ensures all { IfOk result
+        (λ held. AllZip (IsFetched (C.holds cab.old)) (map string_bytes names.now) held) }
     ensures refuses { IfErr result (λ stop. OnRefused stop (λ _. ⊥)) }
     ensures unreadable { IfErr result (λ stop. OnUnreadable stop (λ _. ⊥)) }
-    ensures unread { IfErr result (λ stop. OnUnread stop (λ word. (query : List ℕ) → MissesWord (query ∷ map string_bytes names.now) word (C.missed cab.new))) }
-    ensures rose { IfErr result (λ stop. OnUnread stop (λ _. Rose (C.faults cab.old) (C.faults cab.new))) }
+    ensures unread { IfErr result
+        (λ stop. OnUnread stop
+        (λ word. (query : List ℕ)
+        → MissesWord (query ∷ map string_bytes names.now) word (C.missed cab.new))) }
+    ensures rose { IfErr result
+        (λ stop. OnUnread stop (λ _. Rose (C.faults cab.old) (C.faults cab.new))) }
     ensures held { (other : List ℕ) → C.holds cab.new other ≡ C.holds cab.old other }
     ensures later { C.faults cab.old ≤ C.faults cab.new }
 {
@@ -85,8 +90,8 @@ fn none_line(alloc: Global) -> Result<String, NoMemory>
     as_line(placed_line(alloc, Refusal::NoCredentialAnswers, Place::Nowhere)?)
 }
 
-/// The answer to a query file over token files: the position of the credential that answers the query with the fewest
-/// disclosures, and the compact text of what it presents.
+/// The answer to a query file over token files: the position of the credential that answers the
+/// query with the fewest disclosures, and the compact text of what it presents.
 pub fn answer_files(alloc: Global, query_file: &[u8], held: &CredentialList) -> Result<String, Stop>
     ensures replies { IsReply (WalletAnswers query_file.now held.now) result }
     ensures read { IfErr result (λ stop. OnUnread stop (λ _. ⊥)) }
@@ -107,9 +112,14 @@ fn fetch_answer<C: Cabinet>(
     query: &str,
     tokens: &[String],
 ) -> Result<String, Stop>
-    ensures replies { IsReply (PicksFromFiles (C.holds cab.old) query.now (map string_bytes tokens.now)) result }
-    ensures misses { IfErr result (λ stop. OnUnread stop (λ word. MissesWord (query.now ∷ map string_bytes tokens.now) word (C.missed cab.new))) }
-    ensures rose { IfErr result (λ stop. OnUnread stop (λ _. Rose (C.faults cab.old) (C.faults cab.new))) }
+    ensures replies { IsReply
+        (PicksFromFiles (C.holds cab.old) query.now (map string_bytes tokens.now)) result }
+    ensures misses { IfErr result
+        (λ stop. OnUnread stop
+        (λ word.
+        MissesWord (query.now ∷ map string_bytes tokens.now) word (C.missed cab.new))) }
+    ensures rose { IfErr result
+        (λ stop. OnUnread stop (λ _. Rose (C.faults cab.old) (C.faults cab.new))) }
     ensures held { (other : List ℕ) → C.holds cab.new other ≡ C.holds cab.old other }
     ensures later { C.faults cab.old ≤ C.faults cab.new }
 {
@@ -118,11 +128,12 @@ fn fetch_answer<C: Cabinet>(
     answer_files(alloc, file.bytes(), &held)
 }
 
-/// Runs the wallet that the words ask for: `wallet`, the name of a query file, and those of 1 to 64 token files.
+/// Runs the wallet that the words ask for: `wallet`, the name of a query file,
+/// and those of 1 to 64 token files.
 ///
-/// The position of the credential that answers the query with the fewest disclosures goes to `out`, and the compact
-/// text of what it presents, in one piece. What each status says of the outside before and after is `WalletEnds`, by
-/// cases.
+/// The position of the credential that answers the query with the fewest disclosures goes to `out`,
+/// and the compact text of what it presents, in one piece. What each status says of the outside
+/// before and after is `WalletEnds`, by cases.
 pub fn run_wallet<C: Cabinet, O: Sink, E: Sink>(
     alloc: Global,
     words: &[String],
@@ -130,8 +141,11 @@ pub fn run_wallet<C: Cabinet, O: Sink, E: Sink>(
     out: &mut O,
     err: &mut E,
 ) -> Status
-    ensures ends { WalletEnds (map string_bytes words.now) (outside C.Cabinet O.Sink E.Sink cab.old out.old err.old) (outside C.Cabinet O.Sink E.Sink cab.new out.new err.new) result }
-    ensures keeps { RunKeeps (outside C.Cabinet O.Sink E.Sink cab.old out.old err.old) (outside C.Cabinet O.Sink E.Sink cab.new out.new err.new) }
+    ensures ends { WalletEnds (map string_bytes words.now)
+        (outside C.Cabinet O.Sink E.Sink cab.old out.old err.old)
+        (outside C.Cabinet O.Sink E.Sink cab.new out.new err.new) result }
+    ensures keeps { RunKeeps (outside C.Cabinet O.Sink E.Sink cab.old out.old err.old)
+        (outside C.Cabinet O.Sink E.Sink cab.new out.new err.new) }
 {
     let Some((query, tokens)) = wallet_words(words) else {
         return tell(err, "usage\n", Status::Usage);

@@ -24,7 +24,8 @@ pub(crate) fn has_values(tree: &Marked, equal: &EqualList) -> bool
 }
 
 fn has_value(tree: &Marked, at: &Path, value: &Tree) -> bool
-    ensures { IsTrue result ↔ (tree_at (strip (marked_of tree.now)) at.now ≡ Some (tree_of value.now)) }
+    ensures { IsTrue result
+        ↔ (tree_at (strip (marked_of tree.now)) at.now ≡ Some (tree_of value.now)) }
 {
     match found_at(tree, at) {
         Some(there) => is_same(there, value),
@@ -33,7 +34,8 @@ fn has_value(tree: &Marked, at: &Path, value: &Tree) -> bool
 }
 
 fn found_at<'a>(tree: &'a Marked, at: &Path) -> Option<&'a Marked>
-    ensures { option_map (λ there. strip (marked_of there.now)) result ≡ tree_at (strip (marked_of tree.now)) at.now }
+    ensures { option_map (λ there. strip (marked_of there.now)) result
+        ≡ tree_at (strip (marked_of tree.now)) at.now }
 {
     let mut inside = tree;
     for step in at.steps() {

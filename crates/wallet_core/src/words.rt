@@ -7,8 +7,11 @@ pub const TOKENS_MAX: usize = 64;
 
 // The names of the query file and of the token files.
 pub(crate) fn wallet_words(words: &[String]) -> Option<(&str, &[String])>
-    ensures some { IfSome result (λ named. IsWallet (map string_bytes words.now) named.0.now (map string_bytes named.1.now)) }
-    ensures none { result ≡ None → (query : List ℕ) (tokens : List (List ℕ)) → IsWallet (map string_bytes words.now) query tokens → ⊥ }
+    ensures some { IfSome result
+        (λ named.
+        IsWallet (map string_bytes words.now) named.0.now (map string_bytes named.1.now)) }
+    ensures none { result ≡ None → (query : List ℕ) (tokens : List (List ℕ))
+        → IsWallet (map string_bytes words.now) query tokens → ⊥ }
 {
     let [name, query, tokens @ ..] = words else {
         return None;
