@@ -161,7 +161,8 @@ def check_names():
 def check_code():
     """Whether the code that LIBRARY.md shows stands in the sources, but for what it says of a service of yours."""
     def plain(text):
-        return re.sub(r"\s+", "", text).replace(",)", ")")
+        unmarked = re.sub(r"^\s*(///|//|--) ", "", text, flags=re.M)
+        return re.sub(r"\s+", "", unmarked).replace(",)", ")")
 
     files = [path for path in (TOP / "crates").glob("*/*/**/*.*t") if path.suffix in (".rt", ".antt")]
     sources = [plain(path.read_text(encoding="utf-8")) for path in files]

@@ -13,8 +13,7 @@ use Rattle.issuer_core.specs.Written.{IsIssued, IsLaidOut}
 abbrev pub order_for : Tree → List (List Text) → Order
 order_for payload hide =
     record {
-      payload =
-          payload;
+      payload = payload;
       hide = hide;
       decoys = [];
       kid = None;
