@@ -20,7 +20,8 @@ use Rattle.holder_core.specs.declared.ask.Ask.{Ask}
 use Rattle.holder_core.specs.declared.errors.PresentError.{PresentError}
 use Rattle.holder_core.specs.declared.errors.PresentError.TheVariants.{Memory, SignFailed}
 use Rattle.issuer_core.specs.Order.{Order}
-use Rattle.sdjwt_cli.specs.PresentedValues.{AreShort, IsShownAt, PresentedOverValues}
+use Rattle.sdjwt_cli.specs.AnySigner.{key_signer}
+use Rattle.sdjwt_cli.specs.PresentedValues.{AcceptedBy, AreShort, IsShownAt, PresentedOverValues}
 use Rattle.sdjwt_cli.specs.Suits.{Suits, claims_for}
 use Rattle.sdjwt_cli.proofs.HeldIssued.{by_anyone}
 use Rattle.examples_service.specs.EndToEnd.{IsIssuedText, IsPresentedText}
@@ -31,7 +32,7 @@ never h = omega (arith, h)
 
 module _ {F : Type 0} (answers : RuleAnswers F) (rule : F) (law : PresentedOverValues answers rule) (seed : List ℕ) (order : Order) (key : AlgKey) (token : List ℕ) (issued : IsIssuedText seed order key token)
     (ask : Ask) (signing : List ℕ) (policy : Policy) (now later : ℕ) (suits : Suits answers rule order key ask signing policy now later) (short : AreShort ask.binding) (in_range : now < 2 ^ 64) where
-  shown_at : IsShownAt answers rule token ask signing policy now later (claims_for order ask.want)
+  shown_at : IsShownAt answers rule token (asked_by ask) (key_signer (hs256_key signing)) now (AcceptedBy (demands_of policy) later (claims_for order ask.want))
   shown_at =
       let over_values = law seed order key issued.parts (by_anyone seed order key issued.parts issued.issued) ask signing policy now later suits short in_range in
       over_values.shown token (subst (λ (x : List ℕ). IsToken x (alone issued.parts)) (sym issued.text_is) over_values.reads)

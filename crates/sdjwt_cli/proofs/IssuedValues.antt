@@ -1,5 +1,5 @@
 -- A token that is issued for the worked order: each premise of the law of presenting is met.
-use Rattle.std.proofs.Common.{◌≡◌, ℕ, zero, suc, ◌+◌, ◌≤◌, List, [], ◌∷◌, length, true, false, bytes_eq, None, Some, codes, rules, refl, sym, ap, subst, ◌∙◌, arith}
+use Rattle.std.proofs.Common.{◌≡◌, ℕ, zero, suc, ◌≤◌, List, [], ◌∷◌, length, true, false, bytes_eq, None, Some, codes, rules, refl, sym, ap, subst, ◌∙◌, arith}
 use Rattle.std.specs.List.{AllByRecursion}
 use Rattle.std.specs.Prelude.{slice_get}
 use Rattle.json.proofs.Printed.Utf8.{IsUtf8-are_ascii}
@@ -17,7 +17,6 @@ use Rattle.digest_sites.specs.Reserved.{sd_name, dots_name}
 use Rattle.rebuild_core.specs.Payload.{alg_name}
 use Rattle.rebuild_core.specs.Free.{HasNoReserved}
 use Rattle.claim_tree.specs.JsonText.{json_text}
-use Rattle.sd_outside.specs.Limits.{issue_max}
 use Rattle.compact_form.specs.declared.parts.Parts.{Parts}
 use Rattle.compact_form.specs.Compact.{compact}
 use Rattle.compact_form.specs.Lowest.{NoneApplies}
@@ -130,8 +129,8 @@ lengths : (length (head issuer_key order payload given) ≤ 1000) × (length (bo
 unfolding escape_byte alg_name sd_name
 lengths = (omega arith, omega arith)
 
-short : length (compact parts) ≤ issue_max
-short =
+pub parts_short : length (compact parts) ≤ 5000
+parts_short =
     let first = ap length first_made in
     let second = ap length second_made in
     omega (
@@ -157,7 +156,7 @@ issued = record {
   writable = writable;
   words = words issuer_key order payload given (omega arith) (omega arith) disclosure_words;
   few = omega arith;
-  short = short;
+  short = let few = parts_short in omega (arith, few);
 }
 
 issues : Issues order_file seed_file (line (compact parts))

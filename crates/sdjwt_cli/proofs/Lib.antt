@@ -17,7 +17,10 @@ mod PresentedShort
 mod KeptClaims
 mod PresentedAccepted
 mod NothingRefused
+mod BindingRoom
+mod KeySuits
 mod PresentedValues
+mod PresentedToCaller
 mod PresentedVerified
 mod PresentedRuns
 mod NoForgery
@@ -26,6 +29,7 @@ pub mod SuitedFiles
 pub mod ReadFiles
 mod IssuedValues
 mod ForgeryExample
+mod CallerExample
 mod Examples
 mod HiddenPaths
 mod GeneratedWords

@@ -1,38 +1,54 @@
--- The law of presenting, over values.
-use Rattle.std.proofs.Common.{ℕ, ◌<◌, ◌^◌, List}
+-- The law of presenting, over values: whoever signs, and where the keys are held.
+use Rattle.std.proofs.Common.{ℕ, List}
 use Rattle.compact_form.specs.declared.parts.Parts.{Parts}
+use Rattle.hmac_sign.specs.Hmac.{hs256_key}
 use Rattle.json_form.specs.Token.{IsToken}
 use Rattle.selection_core.specs.Consent.{RuleAnswers}
 use Rattle.issuer_core.specs.Order.{Order}
-use Rattle.verifier_core.specs.declared.policy.Policy.{Policy}
-use Rattle.holder_core.specs.declared.ask.Ask.{Ask}
-use Rattle.hmac_sign.specs.Hmac.{AlgKey}
-use Rattle.sdjwt_cli.specs.PresentedValues.{IsIssuedByAnyone, IsAcceptedWith, IsShownAt, PresentedOverValues, AreShort}
+use Rattle.verifier_core.specs.Verdict.{Demands, demands_of}
+use Rattle.holder_core.specs.Asked.{Asked, asked_by}
+use Rattle.holder_core.specs.Present.{IsPresented}
+use Rattle.sdjwt_cli.specs.AnySigner.{AnySigner, key_signer, BindingFits, DemandsSuit}
+use Rattle.sdjwt_cli.specs.PresentedValues.{IsShownOf, IsShownByAnyone, AcceptedBy, PresentedByAnyone, PresentedOverValues}
 use Rattle.json_form.specs.Alone.{alone}
-use Rattle.sdjwt_cli.specs.Suits.{Suits, claims_for}
+use Rattle.sdjwt_cli.specs.Suits.{claims_for}
 use Rattle.sdjwt_cli.proofs.HeldIssued.{IsTokenOf, token_of, issued_text}
+use Rattle.sdjwt_cli.proofs.KeySuits.{key_token_of, key_fits, key_suits}
 use Rattle.sdjwt_cli.proofs.NothingRefused.{is_presented_of, nothing_refused}
-use Rattle.sdjwt_cli.proofs.PresentedAccepted.{IsPresentedOf, answer_text, answer_accepted}
+use Rattle.sdjwt_cli.proofs.PresentedAccepted.{IsPresentedOf, can_be_sent, answer_text, answer_accepted}
 
-module _ {F : Type 0} (answers : RuleAnswers F) (rule : F) (seed : List ℕ) (o : Order) (key : AlgKey) (parts : Parts) (issued : IsIssuedByAnyone seed o key parts)
-    (ask : Ask) (signing : List ℕ) (policy : Policy) (now later : ℕ) (suits : Suits answers rule o key ask signing policy now later) (small : AreShort ask.binding) (in_range : now < 2 ^ 64) where
-  is : IsTokenOf seed o key parts
-  is = token_of seed o key parts issued
+module _ {F : Type 0} (answers : RuleAnswers F) (rule : F) (seed : List ℕ) (o : Order) (issuer : AnySigner) (parts : Parts) (is : IsTokenOf seed o issuer parts)
+    (asked : Asked) (holder : AnySigner) (demands : Demands) (now later : ℕ) (suits : DemandsSuit answers rule o issuer asked holder demands now later) where
+  of : (token : List ℕ) → IsToken token (alone parts) → (answer : Parts) → IsPresented answers rule token asked holder.alg holder.good now answer → IsPresentedOf o asked holder parts now answer
+  of token there answer presented = is_presented_of seed o issuer parts is answers rule asked holder now token there answer presented
 
-  pub accepted_with : (answer : Parts) → IsPresentedOf o ask signing parts now answer → IsAcceptedWith answer policy later (claims_for o ask.want)
-  accepted_with answer of = record {
-    reads = answer_text seed o key parts is ask signing small now in_range answer of;
-    accepted = λ text there. answer_accepted seed o key parts is ask signing small now in_range answer of answers rule policy later suits text there;
+  pub shown_by_anyone : IsShownByAnyone answers rule parts asked holder now (AcceptedBy demands later (claims_for o asked.want))
+  shown_by_anyone = record {
+    reads = issued_text seed o issuer parts is;
+    presents = λ token there fits. nothing_refused seed o issuer parts is answers rule asked holder now token there demands later suits fits;
+    sends = λ token there answer presented. answer_text seed o issuer parts is asked holder now answer (of token there answer presented);
+    verifies = λ token there answer presented text read. answer_accepted seed o issuer parts is asked holder now answer (of token there answer presented) answers rule demands later suits text read;
   }
 
-  pub shown_at : (token : List ℕ) → IsToken token (alone parts) → IsShownAt answers rule token ask signing policy now later (claims_for o ask.want)
-  shown_at token there = record {
-    presents = nothing_refused seed o key parts is answers rule ask signing small now in_range token there policy later suits;
-    verifies = λ answer presented. accepted_with answer (is_presented_of seed o key parts is answers rule ask signing small now in_range token there answer presented);
+  -- where key binding tokens fit, no more is to be known
+  pub shown_of : BindingFits asked.binding holder now → IsShownOf answers rule parts asked holder now (AcceptedBy demands later (claims_for o asked.want))
+  shown_of fits = record {
+    reads = shown_by_anyone.reads;
+    shown = λ token there. record {
+      presents = shown_by_anyone.presents token there fits;
+      verifies = λ answer presented. record {
+        reads = shown_by_anyone.sends token there answer presented (can_be_sent seed o issuer parts is asked holder now answer (of token there answer presented) fits);
+        accepted = shown_by_anyone.verifies token there answer presented;
+      };
+    };
   }
+
+pub presented_by_anyone : {F : Type 0} (answers : RuleAnswers F) (rule : F) (issuer holder : AnySigner) → PresentedByAnyone answers rule issuer holder
+presented_by_anyone answers rule issuer holder seed o parts issued legible asked demands now later suits =
+    shown_by_anyone answers rule seed o issuer parts (token_of seed o issuer parts issued legible) asked holder demands now later suits
 
 pub presented_over_values : {F : Type 0} (answers : RuleAnswers F) (rule : F) → PresentedOverValues answers rule
-presented_over_values answers rule seed o key parts issued ask signing policy now later suits small in_range = record {
-  reads = issued_text seed o key parts (token_of seed o key parts issued);
-  shown = shown_at answers rule seed o key parts issued ask signing policy now later suits small in_range;
-}
+presented_over_values answers rule seed o key parts issued ask signing policy now later suits small in_range =
+    shown_of answers rule seed o (key_signer key) parts (key_token_of seed o key parts issued) (asked_by ask) (key_signer (hs256_key signing)) (demands_of policy) now later
+    (key_suits answers rule o key ask signing policy now later suits)
+    (key_fits signing now in_range ask.binding small)

@@ -6,11 +6,14 @@ use Rattle.claim_tree.specs.FileForms.{Says, MaySay, found}
 use Rattle.claim_tree.specs.declared.file_fault.Field.TheVariants.{Binding}
 use Rattle.compact_form.specs.declared.parts.Parts.{Parts}
 use Rattle.compact_form.specs.Compact.{compact}
+use Rattle.hmac_sign.specs.Hmac.{hs256_key}
 use Rattle.json_form.specs.Token.{IsToken}
 use Rattle.key_binding.specs.ShortText.{IsShortText}
 use Rattle.verifier_core.specs.PolicyFile.{IsPolicyFile}
+use Rattle.verifier_core.specs.Verdict.{demands_of}
 use Rattle.verifier_core.specs.Verdicts.{IsAcceptedAs}
 use Rattle.verifier_core.specs.declared.policy.Policy.{Policy}
+use Rattle.holder_core.specs.Asked.{asked_by}
 use Rattle.holder_core.specs.declared.ask.BindingAsk.{BindingAsk}
 use Rattle.holder_core.specs.declared.present_file.PresentFile.{PresentFile}
 use Rattle.holder_core.specs.PresentFile.{IsBindingOrder, both, IsPresentFile}
@@ -18,14 +21,16 @@ use Rattle.holder_core.proofs.PresentFiles.{one_present}
 use Rattle.sdjwt_cli.specs.Issuing.{Issues}
 use Rattle.cli_parts.specs.Lines.{line}
 use Rattle.selection_core.specs.Never.{never_rule}
-use Rattle.sdjwt_cli.specs.PresentedValues.{IsIssuedByAnyone, IsShownAt, AreShort}
+use Rattle.sdjwt_cli.specs.AnySigner.{AnySigner, key_signer}
+use Rattle.sdjwt_cli.specs.PresentedValues.{IsIssuedByAnyone, IsShownAt, AcceptedBy, AreShort}
 use Rattle.json_form.specs.Alone.{alone}
 use Rattle.sdjwt_cli.specs.Presenting.{signing_key, Presents, DoesNotPresent, IsPresentedFor, IsNotPresentedFor}
 use Rattle.sdjwt_cli.specs.Suits.{Suits, claims_for}
 use Rattle.sdjwt_cli.specs.Verify.{Verifies}
-use Rattle.sdjwt_cli.proofs.HeldIssued.{IsTokenOf, token_of, by_anyone, issued_line}
+use Rattle.sdjwt_cli.proofs.HeldIssued.{IsTokenOf, by_anyone, issued_line}
+use Rattle.sdjwt_cli.proofs.KeySuits.{key_token_of, key_fits}
 use Rattle.sdjwt_cli.proofs.NothingRefused.{is_presented_of}
-use Rattle.sdjwt_cli.proofs.PresentedAccepted.{answer_line}
+use Rattle.sdjwt_cli.proofs.PresentedAccepted.{can_be_sent, answer_line}
 use Rattle.sdjwt_cli.proofs.PresentedValues.{presented_over_values}
 
 -- ---- a present order asks for a short audience and a short nonce
@@ -50,17 +55,23 @@ asks_short bytes said is = short_by (found is.members Binding) said.ask.binding 
 
 module _ (order_file seed_file token present_file policy_file : List ℕ) (now later : ℕ) (issued : Issues order_file seed_file token) (said : PresentFile) (is_said : IsPresentFile present_file said)
     (policy : Policy) (is_policy : IsPolicyFile policy_file policy) (in_range : now < 2 ^ 64) (suits : Suits never_rule said.never issued.order issued.key said.ask (signing_key said.key) policy now later) where
-  anyone : IsIssuedByAnyone issued.seed issued.order issued.key issued.parts
+  abbrev issuer : AnySigner
+  issuer = key_signer issued.key
+
+  abbrev holder : AnySigner
+  holder = key_signer (hs256_key (signing_key said.key))
+
+  anyone : IsIssuedByAnyone issued.seed issued.order issuer issued.parts
   anyone = by_anyone issued.seed issued.order issued.key issued.parts issued.answered
 
-  is : IsTokenOf issued.seed issued.order issued.key issued.parts
-  is = token_of issued.seed issued.order issued.key issued.parts anyone
+  is : IsTokenOf issued.seed issued.order issuer issued.parts
+  is = key_token_of issued.seed issued.order issued.key issued.parts anyone
 
   there : IsToken token (alone issued.parts)
-  there = subst (λ (x : List ℕ). IsToken x (alone issued.parts)) (sym issued.line_is) (issued_line issued.seed issued.order issued.key issued.parts is)
+  there = subst (λ (x : List ℕ). IsToken x (alone issued.parts)) (sym issued.line_is) (issued_line issued.seed issued.order issuer issued.parts is)
 
   -- what the law over values says of it
-  shown : IsShownAt never_rule said.never token said.ask (signing_key said.key) policy now later (claims_for issued.order said.ask.want)
+  shown : IsShownAt never_rule said.never token (asked_by said.ask) holder now (AcceptedBy (demands_of policy) later (claims_for issued.order said.ask.want))
   shown =
       let over_values = presented_over_values never_rule said.never issued.seed issued.order issued.key issued.parts anyone said.ask (signing_key said.key) policy now later suits (asks_short present_file said is_said) in_range in
       over_values.shown token there
@@ -78,9 +89,10 @@ module _ (order_file seed_file token present_file policy_file : List ℕ) (now l
     where
       line_read : (parts : Parts) → IsPresentedFor said token now parts → IsToken (line (compact parts)) (alone parts)
       line_read parts presented =
-          let small = asks_short present_file said is_said in
-          answer_line issued.seed issued.order issued.key issued.parts is said.ask (signing_key said.key) small now in_range parts
-          (is_presented_of issued.seed issued.order issued.key issued.parts is never_rule said.never said.ask (signing_key said.key) small now in_range token there parts presented)
+          let fits = key_fits (signing_key said.key) now in_range said.ask.binding (asks_short present_file said is_said) in
+          let of = is_presented_of issued.seed issued.order issuer issued.parts is never_rule said.never (asked_by said.ask) holder now token there parts presented in
+          answer_line issued.seed issued.order issuer issued.parts is (asked_by said.ask) holder now parts of
+          (can_be_sent issued.seed issued.order issuer issued.parts is (asked_by said.ask) holder now parts of fits)
 
       verified : IsAcceptedAs answer policy later (claims_for issued.order said.ask.want) → Verifies policy_file answer later (line (json_text (claims_for issued.order said.ask.want)))
       verified (marked, accepted, is) = record { policy = policy; is_policy = is_policy; verifies = record { marked = marked; accepted = accepted; line_is = ap (λ t. line (json_text t)) is } }

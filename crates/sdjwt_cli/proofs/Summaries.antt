@@ -12,7 +12,7 @@ use Rattle.compact_form.specs.declared.fault.Fault.{Fault}
 use Rattle.compact_form.specs.Compact.{compact}
 use Rattle.compact_form.specs.Lowest.{IsLowest}
 use Rattle.digest_sites.specs.Given.{Given}
-use Rattle.hmac_sign.specs.Hmac.{IsGood}
+use Rattle.hmac_sign.specs.Hmac.{IsGood, hs256_key}
 use Rattle.marked_tree.specs.Marked.{strip}
 use Rattle.marked_tree.specs.Paths.{chosen}
 use Rattle.json_form.specs.Token.{IsToken}
@@ -38,14 +38,16 @@ use Rattle.sdjwt_cli.specs.Generated.{generated, generated_seed, generated_key, 
 use Rattle.sdjwt_cli.specs.Issuing.{IsIssuedBy}
 use Rattle.selection_core.specs.Never.{never_rule}
 use Rattle.json_form.specs.Alone.{alone}
-use Rattle.sdjwt_cli.specs.PresentedValues.{IsIssuedByAnyone, IsAcceptedWith, IsShownAt, IsShownOf}
+use Rattle.sdjwt_cli.specs.AnySigner.{AnySigner, key_signer}
+use Rattle.sdjwt_cli.specs.PresentedValues.{IsIssuedByAnyone, IsAcceptedWith, IsShownAt, IsShownOf, AcceptedBy}
 use Rattle.sdjwt_cli.specs.Summary.{Summarizes, hidden_paths, chosen_places, embedded_digests, shown_claims, shown_length, summary_lines}
 use Rattle.sdjwt_cli.specs.SummarySteps.{IsPresentedOf, IsAcceptable, IsVerified}
 use Rattle.sdjwt_cli.proofs.CheckedParts.{content}
 use Rattle.sdjwt_cli.proofs.EmbeddedDigests.{issued_count, fewer_embedded, length_picked, fewer_picked}
 use Rattle.sdjwt_cli.proofs.GeneratedOrder.{generated_suits}
-use Rattle.sdjwt_cli.proofs.HeldIssued.{IsTokenOf, token_of, by_anyone}
+use Rattle.sdjwt_cli.proofs.HeldIssued.{IsTokenOf, by_anyone}
 use Rattle.sdjwt_cli.proofs.HiddenPaths.{hidden_count_is}
+use Rattle.sdjwt_cli.proofs.KeySuits.{key_token_of}
 use Rattle.sdjwt_cli.proofs.NothingRefused.{is_presented_of}
 use Rattle.sdjwt_cli.proofs.PresentedAccepted as holder
 use Rattle.sdjwt_cli.proofs.PresentedValues.{presented_over_values}
@@ -57,20 +59,26 @@ module _ (n : ℕ) (issued : Parts) (is_issued : IsIssuedBy generated_seed (gene
   abbrev claims : Tree
   claims = shown_claims n
 
-  anyone : IsIssuedByAnyone generated_seed (generated n) generated_key issued
+  abbrev issuer : AnySigner
+  issuer = key_signer generated_key
+
+  abbrev holder_signs : AnySigner
+  holder_signs = key_signer (hs256_key generated_key.block)
+
+  anyone : IsIssuedByAnyone generated_seed (generated n) issuer issued
   anyone = by_anyone generated_seed (generated n) generated_key issued is_issued
 
-  through : IsShownOf never_rule [] issued (generated_ask n) generated_key.block generated_policy 0 0 claims
+  through : IsShownOf never_rule [] issued (asked_by (generated_ask n)) holder_signs 0 (AcceptedBy (demands_of generated_policy) 0 claims)
   through = presented_over_values never_rule [] generated_seed (generated n) generated_key issued anyone (generated_ask n) generated_key.block generated_policy 0 0 (generated_suits n) tt (omega arith)
 
-  here : IsShownAt never_rule [] (compact issued) (generated_ask n) generated_key.block generated_policy 0 0 claims
+  here : IsShownAt never_rule [] (compact issued) (asked_by (generated_ask n)) holder_signs 0 (AcceptedBy (demands_of generated_policy) 0 claims)
   here = through.shown (compact issued) through.reads
 
   pub nothing_refused : (error : PresentError) → error ≢ Memory → error ≢ SignFailed → IsNotPresented never_rule [] (compact issued) (asked_by (generated_ask n)) (codes "HS256") (IsGood generated_key) 0 error → ⊥
   nothing_refused = here.presents
 
-  is : IsTokenOf generated_seed (generated n) generated_key issued
-  is = token_of generated_seed (generated n) generated_key issued anyone
+  is : IsTokenOf generated_seed (generated n) issuer issued
+  is = key_token_of generated_seed (generated n) generated_key issued anyone
 
   abbrev s : ℕ → Bool
   s = chosen (marked_claims (generated n)) (generated_ask n).want
@@ -85,22 +93,22 @@ module _ (n : ℕ) (issued : Parts) (is_issued : IsIssuedBy generated_seed (gene
   hidden_is = text_count ∙ hidden_count_is (generated n) is_issued.passes is_issued.writable.good.ordered (held_short (generated n).payload is_issued.writable.held)
 
   module _ (presented : Parts) (is_presented : IsPresentedOf n issued presented) where
-    accepted_with : IsAcceptedWith presented generated_policy 0 claims
+    accepted_with : IsAcceptedWith presented (AcceptedBy (demands_of generated_policy) 0 claims)
     accepted_with = here.verifies presented is_presented
 
     pub acceptable : IsAcceptable presented
     acceptable = (claims, accepted_with)
 
-    of : holder.IsPresentedOf (generated n) (generated_ask n) generated_key.block issued 0 presented
-    of = is_presented_of generated_seed (generated n) generated_key issued is never_rule [] (generated_ask n) generated_key.block tt 0 (omega arith) (compact issued) through.reads presented is_presented
+    of : holder.IsPresentedOf (generated n) (asked_by (generated_ask n)) holder_signs issued 0 presented
+    of = is_presented_of generated_seed (generated n) issuer issued is never_rule [] (asked_by (generated_ask n)) holder_signs 0 (compact issued) through.reads presented is_presented
 
     abbrev given : List Given
     given = picked s is.has.given
 
     has_content : HasContent (alone presented) is.has.payload given
     has_content =
-        content (generated n) generated_key is.has.payload given presented
-        (holder.carries_answer generated_seed (generated n) generated_key issued is (generated_ask n) generated_key.block tt 0 (omega arith) presented of)
+        content (generated n) issuer is.has.payload given presented
+        (holder.carries_answer generated_seed (generated n) issuer issued is (asked_by (generated_ask n)) holder_signs 0 presented of)
 
     chosen_is : length presented.disclosures ≡ chosen_places n
     chosen_is = ap length of.presents.disclosures ∙ length_picked s issued.disclosures ∙ ap (λ many. count_by s (range_with_len 0 many)) text_count

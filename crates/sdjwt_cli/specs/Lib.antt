@@ -10,6 +10,7 @@ pub mod Presenting
 pub mod Forms
 pub mod Converting
 pub mod Suits
+pub mod AnySigner
 pub mod Presented
 pub mod PresentingSteps
 pub mod ConvertingSteps

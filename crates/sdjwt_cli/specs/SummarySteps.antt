@@ -9,11 +9,12 @@ use Rattle.hmac_sign.specs.Hmac.{IsGood}
 use Rattle.holder_core.specs.Asked.{asked_by}
 use Rattle.holder_core.specs.Present.{IsPresented}
 use Rattle.verifier_core.specs.Check.{IsCounted}
+use Rattle.verifier_core.specs.Verdict.{demands_of}
 use Rattle.verifier_core.specs.Verdicts.{IsAcceptedAs}
 use Rattle.sdjwt_cli.specs.Generated.{generated_key, generated_ask, generated_policy}
 use Rattle.selection_core.specs.Never.{never_rule}
 use Rattle.json_form.specs.Alone.{alone}
-use Rattle.sdjwt_cli.specs.PresentedValues.{IsAcceptedWith}
+use Rattle.sdjwt_cli.specs.PresentedValues.{IsAcceptedWith, AcceptedBy}
 
 -- what is presented of the issued parts
 abbrev pub IsPresentedOf : ℕ → Parts → Parts → Type 0
@@ -23,7 +24,8 @@ IsPresentedOf n issued presented =
 
 -- the parts are accepted with some claims
 abbrev pub IsAcceptable : Parts → Type 0
-IsAcceptable presented = (claims : Tree) × IsAcceptedWith presented generated_policy 0 claims
+IsAcceptable presented =
+    (claims : Tree) × IsAcceptedWith presented (AcceptedBy (demands_of generated_policy) 0 claims)
 
 -- the claims with which the parts are accepted, and how many digests were looked up
 pub record IsVerified (presented : Parts) (claims : code.Tree) (look_ups : ℕ) : Type 0 where

@@ -4,6 +4,7 @@ ghost use Rattle.std.specs.Io.KnownBytes.{Appends};
 ghost use Rattle.sd_outside.specs.Causes.{Rose};
 ghost use Rattle.sd_outside.specs.declared.status.Status.{Status};
 ghost use Rattle.claim_tree.specs.Lists.{StandsAt, In};
+ghost use Rattle.claim_tree.specs.Tree.{Tree};
 ghost use Rattle.sdjwt_cli.specs.Command.{Command, command_of, NamedFile, files_of};
 ghost use Rattle.cli_parts.specs.Replies.{Reply, gives};
 ghost use Rattle.sdjwt_cli.specs.Answers.{Answers, AreTold};
@@ -12,11 +13,13 @@ ghost use Rattle.sdjwt_cli.specs.Converting.{HasRoom, Converts};
 ghost use Rattle.cli_parts.specs.Outside.{Outside};
 ghost use Rattle.sdjwt_cli.specs.Run.{Ends};
 ghost use Rattle.sdjwt_cli.specs.Presented.{PresentedOverFiles, PresentedOverRuns};
-ghost use Rattle.sdjwt_cli.specs.PresentedValues.{PresentedOverValues};
+ghost use Rattle.verifier_core.specs.Meanings.{meanings};
+ghost use Rattle.sdjwt_cli.specs.AnySigner.{any_signer, ShortFits};
+ghost use Rattle.sdjwt_cli.specs.PresentedValues.{PresentedByAnyone, PresentedToCaller, PresentedOverValues};
 ghost use Rattle.sdjwt_cli.specs.NoForgery.{NoForgery};
 
 use claim_tree::Path;
-use hmac_sign::Signer;
+use hmac_sign::{Signatures, Signer};
 
 /// Each file of a command is named by its word, counted behind the command from 0.
 pub fn files_are_words()
@@ -49,11 +52,49 @@ pub fn converted_again()
         → HasRoom form read.token → Converts form answer answer }
 {}
 
-/// What is presented of an issued token, where the policy suits, is accepted with
-/// what was asked for: of each text that is read as parts that are issued for an
-/// order, by whoever, a holder with this rule of consent refuses nothing, and
-/// each text that is read as what it presents has the verdict acceptance with the
-/// claims without the hidden places that lead to none of the wanted ones.
+/// What is presented of an issued token, whoever signs it and whoever signs the key binding token,
+/// is accepted with what was asked for, where holder and verifier trust these signers and what is
+/// demanded suits: of each text that is read as parts that are issued for an order, a holder with
+/// this rule of consent refuses nothing, as long as its key binding token fits ([`short_fits`]),
+/// and each text that is read as what it presents is accepted with the claims without the hidden
+/// places that lead to none of the wanted ones.
+/// Which signatures are good is one meaning of the issuer's, and another of the holder's, and each
+/// is made by an algorithm of any name. A key set trusts a signer whose good signatures are those
+/// of a key in it; a caller that checks signatures itself trusts one whose signature it said to be
+/// good.
+pub fn presented_by_anyone<I: Signatures, H: Signatures, F: Fn(&Path) -> bool>()
+    ensures { (issuer : I) (holder : H) (rule : F) (alg binding_alg : List ℕ)
+        → PresentedByAnyone F.Fn rule
+        (any_signer alg (I.good issuer)) (any_signer binding_alg (H.good holder)) }
+{}
+
+/// A key binding token fits behind what is issued, by whatever algorithm it is signed, where its
+/// header has at most 300 bytes, a signature from 1 to 2,048, and audience and nonce at most 256
+/// each.
+pub fn short_fits<H: Signatures>()
+    ensures { (holder : H) (alg : List ℕ) → ShortFits (any_signer alg (H.good holder)) }
+{}
+
+/// What [`presented_by_anyone`] says, where a caller checks the signatures, each by a meaning that
+/// the good ones of the signer meet: what is presented is accepted by these meanings; so
+/// [`judge`](verifier_core::judge) accepts it, with just these claims, where what the caller said
+/// is true and it is asked no more.
+pub fn presented_to_caller<
+    I: Signatures,
+    H: Signatures,
+    C: Signatures,
+    D: Signatures,
+    F: Fn(&Path) -> bool,
+>()
+    ensures { (issuer : I) (holder : H) (check : C) (check_holder : Tree → D) (rule : F)
+        (alg binding_alg : List ℕ)
+        → PresentedToCaller F.Fn rule
+        (any_signer alg (I.good issuer)) (any_signer binding_alg (H.good holder))
+        (meanings (C.good check) (λ payload. D.good (check_holder payload))) }
+{}
+
+/// What [`presented_by_anyone`] says, where the keys are held and the policy suits: the issuer
+/// signs with a key that holder and verifier find, and the holder with HS256.
 pub fn presented_values<F: Fn(&Path) -> bool>()
     ensures { (rule : F) → PresentedOverValues F.Fn rule }
 {}

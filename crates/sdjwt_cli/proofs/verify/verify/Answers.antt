@@ -1,5 +1,4 @@
 -- Under the policy that the file says.
-use Rattle.std.proofs.lemmas.Result.{IfOk-weaker}
 use Rattle.cli_parts.proofs.Stopped.{of_text, of_refused}
 use Rattle.sdjwt_cli.specs.Verify.{Verifies, DoesNotVerify, VerifiesUnder, DoesNotVerifyUnder}
 use Rattle.sdjwt_cli.proofs.verify.verify.Goals as goal
