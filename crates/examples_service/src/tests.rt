@@ -1,3 +1,4 @@
+// The two calls of the service, over tokens that it issues itself.
 use crate::{claim_of, token_for};
 use claim_tree::{PathList, read, read_pointer, write};
 use hmac_sign::Hs256Key;

@@ -8,3 +8,4 @@ pub mod OnePresentation
 pub mod PickedNumbers
 pub mod OtherRules
 pub mod SignedLater
+pub mod UnsignedPresents

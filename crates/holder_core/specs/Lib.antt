@@ -3,6 +3,7 @@ pub mod Asked
 pub mod AskedSeen
 pub mod Present
 pub mod PresentFile
+pub mod UnsignedPresent
 pub mod ToSign
 pub mod PresentSteps
 pub mod PresentCalls

@@ -1,3 +1,4 @@
+// What is asked of a holder, with keys or without.
 use claim_tree::PathList;
 use hmac_sign::KeySet;
 use sd_outside::{TextBox, TextList};

@@ -1,3 +1,4 @@
+// Why nothing is presented.
 use compact_form::Fault;
 use sd_outside::NoMemory;
 use verifier_core::VerifyError;

@@ -8,9 +8,11 @@ ghost use Rattle.hmac_sign.specs.Hmac.{AlgKey, IsGood};
 ghost use Rattle.holder_core.specs.Asked.{Asked, AskTheSame};
 ghost use Rattle.holder_core.specs.Present.{IsPresented, IsNotPresented};
 ghost use Rattle.holder_core.specs.PresentFile.{IsPresentFile, IsPresentFileRefused};
+ghost use Rattle.holder_core.specs.UnsignedPresent.{IsUnsignedPresentFile, IsUnsignedPresentRefused};
 ghost use Rattle.holder_core.specs.ToSign.{none_good, IsToPresent, IsSentWith, IsSentBy, IsUnsentWith};
 ghost use Rattle.holder_core.specs.declared.errors.PresentError.{PresentError};
 ghost use Rattle.holder_core.specs.declared.present_file.PresentFile.{PresentFile};
+ghost use Rattle.holder_core.specs.declared.present_file.UnsignedPresentFile.{UnsignedPresentFile};
 ghost use Rattle.holder_core.specs.declared.signing.UnsignedPresentation.{UnsignedPresentation};
 
 use claim_tree::Path;
@@ -24,6 +26,18 @@ pub fn one_present()
         → IsPresentFile bytes said → IsPresentFileRefused bytes fault → fault ≡ FileFault.Memory }
     ensures one_fault { (bytes : List ℕ) (fault other : FileFault)
         → IsPresentFileRefused bytes fault → IsPresentFileRefused bytes other
+        → fault ≢ FileFault.Memory → other ≢ FileFault.Memory → fault ≡ other }
+{}
+
+/// The same of a file without keys, for who checks and signs elsewhere.
+pub fn one_unsigned_present()
+    ensures one { (bytes : List ℕ) (said other : UnsignedPresentFile)
+        → IsUnsignedPresentFile bytes said → IsUnsignedPresentFile bytes other → said ≡ other }
+    ensures not_both { (bytes : List ℕ) (said : UnsignedPresentFile) (fault : FileFault)
+        → IsUnsignedPresentFile bytes said → IsUnsignedPresentRefused bytes fault
+        → fault ≡ FileFault.Memory }
+    ensures one_fault { (bytes : List ℕ) (fault other : FileFault)
+        → IsUnsignedPresentRefused bytes fault → IsUnsignedPresentRefused bytes other
         → fault ≢ FileFault.Memory → other ≢ FileFault.Memory → fault ≡ other }
 {}
 

@@ -7,8 +7,9 @@
 //! line that tells why it does not. Two of its steps may be taken apart: [`check_held`] judges a
 //! token that is held, and [`picked_parts`] leaves out what is not chosen.
 //!
-//! [`present_unsigned`] answers a [`CallerAsk`] without keys: the caller checks the issuer's
-//! signature and makes the holder's, and [`UnsignedPresentation::signed`] puts it in.
+//! [`present_unsigned`] answers a [`CallerAsk`] without keys, which [`read_unsigned_present`] reads
+//! from its file: the caller checks the issuer's signature and makes the holder's, and
+//! [`UnsignedPresentation::signed`] puts it in.
 #![tactic(auto)]
 
 mod ask;
@@ -23,7 +24,7 @@ mod whole;
 
 pub use ask::{Ask, BindingAsk, CallerAsk, CallerBinding};
 pub use errors::PresentError;
-pub use present_file::{PresentFile, read_present};
+pub use present_file::{PresentFile, UnsignedPresentFile, read_present, read_unsigned_present};
 pub use presenting::{check_held, picked_parts, present};
 pub use refusal::refusal_line;
 pub use signing::{Presentation, UnsignedPresentation, present_unsigned};

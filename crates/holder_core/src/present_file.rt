@@ -1,23 +1,29 @@
-// The file that says what is asked of a holder.
-ghost use Rattle.std.specs.Prelude.{List, ℕ, codes, option_map, IfOk, IfErr, IfSome, IfNone};
+// The files that say what is asked of a holder: with keys, and without.
+ghost use Rattle.std.specs.Prelude.{List, ℕ, Option, codes, option_map, IfOk, IfErr, IfSome, IfNone};
 ghost use Rattle.claim_tree.specs.Tree.{Text, member_named};
 ghost use Rattle.claim_tree.specs.View.{tree_of};
-ghost use Rattle.claim_tree.specs.FileForms.{HasValue, IsText, Says, MaySay, optional, found};
+ghost use Rattle.claim_tree.specs.FileForms.{HasValue, IsText, IsTexts, Says, MaySay, required, optional, found};
 ghost use Rattle.claim_tree.specs.FileRefusals.{IsMemberRefused};
-ghost use Rattle.claim_tree.specs.declared.file_fault.Field.TheVariants.{Binding};
+ghost use Rattle.claim_tree.specs.declared.file_fault.Field.TheVariants.{Algs, Binding};
 ghost use Rattle.hmac_sign.specs.KeyText.{IsKeyText};
 ghost use Rattle.holder_core.specs.PresentFile.{IsBindingOrder, IsPresentFile, IsPresentFileRefused};
+ghost use Rattle.holder_core.specs.UnsignedPresent.{IsAlgName, IsCallerBinding, IsUnsignedPresentFile, IsUnsignedPresentRefused};
 
-use crate::{Ask, BindingAsk};
-use claim_tree::{Field, FileFault, PathList, Tree, TreeMap, pointer_list_member, read_members};
+use crate::{Ask, BindingAsk, CallerAsk, CallerBinding};
+use claim_tree::{
+    Field, FileFault, PathList, Tree, TreeMap, pointer_list_member, read_members, text_list_member,
+};
 use compact_form::FILE_MAX;
 use hmac_sign::{Hs256Key, key_of};
 use key_binding::short_text_in;
-use sd_outside::{NoMemory, TextBox};
+use sd_outside::{NoMemory, TextBox, TextList};
 use std::alloc::Global;
 use verifier_core::keys_member;
 
 const FIELDS: [Field; 4] = [Field::Keys, Field::Want, Field::Never, Field::Binding];
+
+// Those of a present order without keys.
+const UNSIGNED_FIELDS: [Field; 4] = [Field::Algs, Field::Want, Field::Never, Field::Binding];
 
 // The members of the object that asks for a key binding token: no more, and no fewer.
 const MEMBERS: usize = 4;
@@ -29,6 +35,13 @@ pub struct PresentFile {
     pub ask: Ask,
     pub never: PathList,
     pub key: Option<Hs256Key>,
+}
+
+/// What a present order without keys says: what is asked, and the places that are never shown.
+#[derive(Drop)]
+pub struct UnsignedPresentFile {
+    pub ask: CallerAsk,
+    pub never: PathList,
 }
 
 // What a file says of key binding: what is asked, and the key that signs.
@@ -134,4 +147,123 @@ pub fn read_present(alloc: Global, bytes: &[u8]) -> Result<PresentFile, FileFaul
         binding,
     };
     Ok(PresentFile { ask, never, key })
+}
+
+fn algs_member(alloc: Global, members: &TreeMap) -> Result<TextList, FileFault>
+    ensures ok { IfOk result (Says IsTexts (found members.now Algs)) }
+    ensures refused { IfErr result (IsMemberRefused (required Algs IsTexts) members.now) }
+{
+    match text_list_member(alloc, members, Field::Algs)? {
+        Some(algs) => Ok(algs),
+        None => Err(FileFault::Missing(Field::Algs)),
+    }
+}
+
+// The name of an algorithm: a text, but neither the empty one nor `none`.
+fn alg_in(alloc: Global, members: &TreeMap) -> Result<Option<TextBox>, NoMemory>
+    ensures alg { IfOk result
+        (λ alg. IfSome alg (Says IsAlgName (member_named members.now (codes "alg")))) }
+    ensures none { IfOk result (λ alg. IfNone alg
+        ((s : Text) → Says IsAlgName (member_named members.now (codes "alg")) s → ⊥)) }
+{
+    let Some(Tree::Text(text)) = members.get("alg") else {
+        return Ok(None);
+    };
+    match text.as_str() {
+        "" | "none" => Ok(None),
+        name => Ok(Some(TextBox::make(alloc, name)?)),
+    }
+}
+
+// A copy of the text that a member is, where it is there.
+fn maybe_text_in(
+    alloc: Global,
+    members: &TreeMap,
+    name: &str,
+) -> Result<Option<Option<TextBox>>, NoMemory>
+    ensures text { IfOk result
+        (λ said. IfSome said (MaySay IsText (member_named members.now name.now))) }
+    ensures none { IfOk result (λ said. IfNone said
+        ((s : Option Text) → MaySay IsText (member_named members.now name.now) s → ⊥)) }
+{
+    match members.get(name) {
+        Some(Tree::Text(text)) => Ok(Some(Some(TextBox::make(alloc, text.as_str())?))),
+        Some(_) => Ok(None),
+        None => Ok(Some(None)),
+    }
+}
+
+fn caller_binding_of(alloc: Global, tree: &Tree) -> Result<Option<CallerBinding>, NoMemory>
+    ensures binding { IfOk result (λ said. IfSome said (IsCallerBinding (tree_of tree.now))) }
+    ensures none { IfOk result
+        (λ said. IfNone said (HasValue IsCallerBinding (tree_of tree.now) → ⊥)) }
+{
+    let Tree::Object(members) = tree else {
+        return Ok(None);
+    };
+    let Some(kid) = maybe_text_in(alloc, members, "kid")? else {
+        return Ok(None);
+    };
+    let just = if kid.is_some() { 4 } else { 3 };
+    if members.len() != just {
+        return Ok(None);
+    }
+    let Some(alg) = alg_in(alloc, members)? else {
+        return Ok(None);
+    };
+    let Some(aud) = short_text_in(alloc, members, "aud")? else {
+        return Ok(None);
+    };
+    let Some(nonce) = short_text_in(alloc, members, "nonce")? else {
+        return Ok(None);
+    };
+    Ok(Some(CallerBinding {
+        alg,
+        kid,
+        aud,
+        nonce,
+    }))
+}
+
+fn caller_binding_member(
+    alloc: Global,
+    members: &TreeMap,
+) -> Result<Option<CallerBinding>, FileFault>
+    ensures ok { IfOk result (MaySay IsCallerBinding (found members.now Binding)) }
+    ensures refused { IfErr result
+        (IsMemberRefused (optional Binding IsCallerBinding) members.now) }
+{
+    let Some(tree) = members.get(Field::Binding.word()) else {
+        return Ok(None);
+    };
+    match caller_binding_of(alloc, tree)? {
+        Some(binding) => Ok(Some(binding)),
+        None => Err(FileFault::Wrong(Field::Binding)),
+    }
+}
+
+/// The present order that a file says where the caller checks the issuer's signature and makes the
+/// holder's, for [`present_unsigned`](crate::present_unsigned): as [`read_present`] reads it, but
+/// without keys.
+///
+/// In the place of `keys` it must have `algs`, a list of texts: the algorithms of the issuer's
+/// signatures that the caller checks. `binding` is an object of just `alg`, the name of the
+/// algorithm by which the caller signs, which is not empty and not `none`, of `aud` and `nonce`,
+/// and of `kid` where the claim `cnf` has to tell this name.
+#[tactic(auto, using(crate::proofs::UnsignedPresents::refused_at))]
+pub fn read_unsigned_present(alloc: Global, bytes: &[u8]) -> Result<UnsignedPresentFile, FileFault>
+    ensures ok { IfOk result (IsUnsignedPresentFile bytes.now) }
+    ensures refused { IfErr result (IsUnsignedPresentRefused bytes.now) }
+{
+    let members = read_members(alloc, bytes, FILE_MAX, &UNSIGNED_FIELDS)?;
+    let algs = algs_member(alloc, &members)?;
+    let want = pointer_list_member(alloc, &members, Field::Want)?;
+    let never = pointer_list_member(alloc, &members, Field::Never)?;
+    let binding = caller_binding_member(alloc, &members)?;
+    let ask = CallerAsk {
+        algs,
+        want,
+        binding,
+    };
+    Ok(UnsignedPresentFile { ask, never })
 }

@@ -1,3 +1,4 @@
+// An audit of a token of another program.
 use audit_core::{AuditError, audit};
 use digest_index::Steps;
 use hmac_sign::Alg;

@@ -1,3 +1,4 @@
+// Key binding tokens that are written and judged.
 use claim_tree::{Tree, read};
 use compact_form::JwtParts;
 use disclosure::HashAlg;

@@ -1,3 +1,4 @@
+// A feed whose lines come in pieces.
 use feed_core::{Feed, FeedError};
 use sd_outside::MemSink;
 use std::test::Fail;

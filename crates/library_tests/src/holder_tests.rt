@@ -1,3 +1,4 @@
+// A holder's rule and signer, and what is told where they fail.
 use claim_tree::Path;
 use compact_form::print;
 use digest_index::Steps;

@@ -1,3 +1,4 @@
+// A wallet's rule, and what it sends.
 use crate::holder_tests::{TOKEN as BOTH, presented};
 use claim_tree::{Path, write};
 use compact_form::print;

@@ -1,3 +1,4 @@
+// The commands, read from the words of a run.
 ghost use Rattle.std.specs.Prelude.{◌≡◌, [], ◌∷◌, map, string_bytes};
 ghost use Rattle.std.specs.Option.{option_map};
 ghost use Rattle.sdjwt_cli.specs.Command.{command_of};

@@ -1,3 +1,4 @@
+// The serializations by their words.
 ghost use Rattle.std.specs.Prelude.{◌≡◌};
 ghost use Rattle.sdjwt_cli.specs.Forms.{form_of};
 

@@ -1,3 +1,4 @@
+// A whole run of the program: its words, its files, its answer.
 ghost use Rattle.std.specs.Prelude.{◌≡◌, ◌≤◌, ℕ, List, map, IfErr, string_bytes};
 ghost use Rattle.sd_outside.specs.Causes.{Rose};
 ghost use Rattle.cli_parts.specs.Outside.{outside};

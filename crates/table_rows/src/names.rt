@@ -1,3 +1,4 @@
+// Texts under names, which later lines of a table use.
 use crate::trouble::Trouble;
 use std::alloc::Global;
 

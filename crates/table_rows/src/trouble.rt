@@ -1,3 +1,4 @@
+// Why a line of a table is not run.
 use sd_outside::NoMemory;
 use std::alloc::{AllocError, AllocFailed};
 

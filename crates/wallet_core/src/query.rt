@@ -1,3 +1,4 @@
+// What is asked of a wallet.
 use claim_tree::{Path, PathList, Tree};
 use hmac_sign::KeySet;
 use sd_outside::{ByteBox, ListOf};

@@ -1,0 +1,11 @@
+use Rattle.claim_tree.specs.View.{tree_of}
+use Rattle.claim_tree.specs.FileForms.{optional}
+use Rattle.claim_tree.specs.declared.file_fault.Field.TheVariants.{Binding}
+use Rattle.claim_tree.proofs.FileMembers.{wrong_member}
+use Rattle.holder_core.specs.UnsignedPresent.{IsCallerBinding}
+use Rattle.holder_core.proofs.present_file.caller_binding_member.Goals as goal
+
+pub returns-in-None-clause-refused : goal.returns-in-None-clause-refused
+returns-in-None-clause-refused c =
+    let none = rw c.in-None.is at c.in_ok-binding.ensures.none in
+    wrong_member (optional Binding IsCallerBinding) c.args.members.now c.word.result.now (tree_of c.in-Some.tree.now) c.word.ensures c.in-Some.ensures none
