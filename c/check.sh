@@ -63,7 +63,7 @@ fi
 echo 'With each request for memory refused in turn:'
 "$made/memory" "$here/../examples/walk"
 
-# The programs of docs/C.md over OpenSSL: the second of the page verifies, and the third issues.
+# The programs of docs/C.md over OpenSSL: the second of the page verifies, and the third issues and presents.
 block() { sed -n '/^```c$/,/^```$/p' "$here/../docs/C.md" | awk -v at="$1" '/^```c$/ { n++ } !/^```/ && n == at'; }
 block 2 >"$made/public.c"
 block 3 >"$made/signed.c"
@@ -76,6 +76,7 @@ if echo '#include <openssl/evp.h>' | "$CC" -E - >/dev/null 2>&1; then
         python3 "$here/tests/letters.py" ${how:+--step 101} "$made/public" "$here/../vectors/rfc9901"
         if command -v openssl >/dev/null; then
             python3 "$here/tests/issued.py" "$made/signed"
+            python3 "$here/tests/presented.py" "$made/signed" "$lib/libsdjwt.so"
         else
             echo 'skipped: tokens that are signed by OpenSSL (no openssl)'
         fi

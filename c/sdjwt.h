@@ -19,8 +19,9 @@
  *   SDJWT_MEMORY      wrote nothing, since malloc found no memory. `*len` is 0.
  *
  * No other status comes, but for sdjwt_judge and sdjwt_policy_judge, which have two more: SDJWT_ASKS and
- * SDJWT_NOT_ASKED. What lies behind the answer in `out` stays as it was, also where the status is not SDJWT_DONE:
- * look at no more than `*len` bytes, and at none where nothing was written.
+ * SDJWT_NOT_ASKED; and for sdjwt_present_ask, which has SDJWT_ASKS and SDJWT_TO_SIGN. What lies behind the answer in
+ * `out` stays as it was, also where the status is not SDJWT_DONE: look at no more than `*len` bytes, and at none
+ * where nothing was written.
  *
  * POINTERS. None may be null, not even where its length is 0: pass "" for an input of no bytes, and any byte of
  * yours for a buffer of no room. `*len` need not be set before the call. `out` and `len` may overlap neither each
@@ -67,11 +68,12 @@ extern "C" {
 #define SDJWT_MEMORY 5
 #define SDJWT_UNREADABLE 6
 
-/* The statuses that sdjwt_judge has besides. The program has none of them. */
+/* The statuses that sdjwt_judge and sdjwt_present_ask have besides. The program has none of them. */
 #define SDJWT_ASKS 7
 #define SDJWT_NOT_ASKED 8
+#define SDJWT_TO_SIGN 9
 
-/* What is said of a signature, for sdjwt_judge. */
+/* What is said of a signature, for sdjwt_judge, sdjwt_present_ask and sdjwt_present_sign. */
 #define SDJWT_UNSAID 0
 #define SDJWT_UNKNOWN 1
 #define SDJWT_BAD 2
@@ -137,6 +139,50 @@ SDJWT_CHECKED sdjwt_status sdjwt_issue_sign(const uint8_t *order, size_t order_l
 SDJWT_CHECKED sdjwt_status sdjwt_present(const uint8_t *order, size_t order_len,
                                          const uint8_t *token, size_t token_len, uint64_t now,
                                          uint8_t *out, size_t room, size_t *len);
+
+/*
+ * The next step of presenting a token, where you check the issuer's signature and make the holder's: for algorithms
+ * whose keys the library does not hold, as ES256 and EdDSA. Call with SDJWT_UNSAID, and again with what you found out
+ * where it asks:
+ *
+ *   SDJWT_ASKS        wrote the question about the issuer's signature, of the form that sdjwt_judge has for it: a line
+ *                     of JSON, an object with `text`, whose bytes are what was signed, `signature`, `alg` and others;
+ *   SDJWT_TO_SIGN     wrote the text of the key binding token that the order asks for: sign it, and call
+ *                     sdjwt_present_sign. There is NO line end behind it. Nothing is presented yet;
+ *   SDJWT_DONE        wrote what is presented, as sdjwt_present does: the order asks for no key binding token;
+ *   SDJWT_REFUSED     the token is broken by what you said, or the order asks for what can't be shown.
+ *
+ * `issuer` is what you say of the issuer's signature: SDJWT_UNKNOWN (you have no key for it), SDJWT_BAD, or SDJWT_GOOD.
+ * Of another number than these and SDJWT_UNSAID the status is SDJWT_USAGE. What is said unasked is not looked at. No
+ * call keeps anything, so give each the same order, token and moment, and what you said before.
+ *
+ * The order is that of sdjwt_present without its two keys. In the place of `keys` it must have `algs`, a list of the
+ * algorithms that you take of the issuer, as in ""algs": ["ES256"]"; "none", "" and names that begin with HS are
+ * never taken, also where they stand there. `want` and `never` are as ever. A `binding` has `aud`, `nonce` and `alg`,
+ * the name of the algorithm by which you sign, and no `key`; it may have `kid`, and then the claim `cnf` of what is
+ * shown has to name this key. Where it has none, that the key is the one of `cnf` is yours to know.
+ *
+ * YOU ANSWER for your word and your signature. Say SDJWT_GOOD only where you checked `signature` over just the bytes of
+ * `text`, with the algorithm `alg`, under a key of the issuer's that you had before the token came. Sign just the
+ * `*len` bytes of the answer, once the order is what its user agreed to: whoever sees it learns what is shown.
+ */
+SDJWT_CHECKED sdjwt_status sdjwt_present_ask(const uint8_t *order, size_t order_len,
+                                             const uint8_t *token, size_t token_len, uint64_t now,
+                                             uint8_t issuer,
+                                             uint8_t *out, size_t room, size_t *len);
+
+/*
+ * What is presented for the same order, token, moment and word, with this signature of what sdjwt_present_ask answers:
+ * the bytes as a JWS has them, before base64url (of ES256 the 64 bytes of r and s, RFC 7518 section 3.4). Of no bytes
+ * the status is SDJWT_USAGE, and so it is with SDJWT_UNSAID or a number that says nothing. Of the refusals only 75 is
+ * judged behind the signature: the presentation is too long with it. Where the order asks for no key binding token, the
+ * signature is not looked at.
+ */
+SDJWT_CHECKED sdjwt_status sdjwt_present_sign(const uint8_t *order, size_t order_len,
+                                              const uint8_t *token, size_t token_len, uint64_t now,
+                                              uint8_t issuer,
+                                              const uint8_t *signature, size_t signature_len,
+                                              uint8_t *out, size_t room, size_t *len);
 
 /*
  * Verifies a presentation under a policy, at a moment in seconds since 1970. The answer is the processed payload, as a

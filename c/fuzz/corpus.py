@@ -32,6 +32,20 @@ def without_key(order):
         return order
 
 
+def apart(order, token):
+    """A present order for who checks and signs, and a token for it, where they are JSON with keys and a token of HS256."""
+    try:
+        members = json.loads(order)
+        binding = members.get("binding")
+        if isinstance(binding, dict):
+            members["binding"] = {**{name: value for name, value in binding.items() if name != "key"}, "alg": "ES256"}
+        order = json.dumps({"algs": ["ES256"], **{name: value for name, value in members.items() if name != "keys"}}).encode()
+    except (ValueError, AttributeError, RecursionError):
+        pass
+    # the header with HS256 in its first member, and with ES256
+    return [order, token.replace(b"eyJhbGciOiJIUzI1NiI", b"eyJhbGciOiJFUzI1NiI")]
+
+
 def inputs(vector):
     """The calls of a vector's runs, each with the bytes of its files."""
     files = {name: content.encode() for name, content in vector["files"].items()}
@@ -46,6 +60,10 @@ def inputs(vector):
             asked = [without_key(parts[0]), b"ES256", parts[1]]
             yield "ask", asked
             yield "sign", [*asked, b"a signature"]
+        if call == "present" and len(parts) == 2 and None not in parts:
+            for word in (b"", b"no", b"yes"):
+                yield "step", [*apart(*parts), word]
+            yield "sent", [*apart(*parts), b"a signature"]
         answer = reading.run(run["words"], files.get, run.get("moment", SOME_MOMENT), files.get("source", b""))
         if "kept_as" in run:
             files[run["kept_as"]] = answer.output
@@ -53,7 +71,7 @@ def inputs(vector):
 
 def main():
     folder = Path(sys.argv[1])
-    for call in (*CALLS, "ask", "sign", "policy"):
+    for call in (*CALLS, "ask", "sign", "step", "sent", "policy"):
         (folder / call).mkdir(parents=True, exist_ok=True)
     found = [each for path in sorted((TOP / "vectors").glob("*.json")) for each in json.loads(path.read_text("utf-8"))]
     for vector in found + write.of_tools():

@@ -1,10 +1,12 @@
 /*
  * Fuzzes one call of the C library, by libFuzzer: c/fuzz/run.sh builds it and tells how.
  *
- * The environment's SDJWT_FUZZ names the call: verify, present, issue, ask, sign, show, convert, audit, wallet or policy.
- * An input is the files of the call, with a zero byte between two: what stands for its order, policy or query, then its
- * tokens; for ask and sign the name of the algorithm, the seed and the signature. Each comes to the call in memory of its own and of just its length. What the header promises of an answer is checked:
- * its status, its length, the bytes behind it, and that a call with just as much room answers the same.
+ * The environment's SDJWT_FUZZ names the call: verify, present, issue, ask, sign, step, sent, show, convert, audit, wallet
+ * or policy. An input is the files of the call, with a zero byte between two: what stands for its order, policy or query,
+ * then its tokens; for ask and sign the name of the algorithm, the seed and the signature; for step the word on the
+ * issuer's signature, which is a length; for sent the holder's signature. Each comes to the call in memory of its own and
+ * of just its length. What the header promises of an answer is checked: its status, its length, the bytes behind it, and
+ * that a call with just as much room answers the same.
  */
 #include "sdjwt.h"
 
@@ -66,6 +68,17 @@ static sdjwt_status call_sign(const input *given, uint8_t *out, size_t room, siz
                             len);
 }
 
+static sdjwt_status call_step(const input *given, uint8_t *out, size_t room, size_t *len) {
+    text order = part(given, 0), token = part(given, 1);
+    return sdjwt_present_ask(order.bytes, order.len, token.bytes, token.len, NOW, (uint8_t)part(given, 2).len, out, room, len);
+}
+
+static sdjwt_status call_sent(const input *given, uint8_t *out, size_t room, size_t *len) {
+    text order = part(given, 0), token = part(given, 1), made = part(given, 2);
+    return sdjwt_present_sign(order.bytes, order.len, token.bytes, token.len, NOW, SDJWT_GOOD, made.bytes, made.len, out, room,
+                              len);
+}
+
 static sdjwt_status call_show(const input *given, uint8_t *out, size_t room, size_t *len) {
     text token = part(given, 0);
     return sdjwt_show(token.bytes, token.len, out, room, len);
@@ -124,6 +137,7 @@ static const struct {
     call *made;
 } calls[] = {
     {"verify", call_verify}, {"present", call_present}, {"issue", call_issue}, {"ask", call_ask}, {"sign", call_sign},
+    {"step", call_step}, {"sent", call_sent},
     {"show", call_show}, {"convert", call_convert}, {"audit", call_audit}, {"wallet", call_wallet}, {"policy", call_policy},
 };
 
@@ -145,16 +159,22 @@ int LLVMFuzzerInitialize(int *argc, char ***argv) {
     return 0;
 }
 
+/* Whether a text was written: the answer or a line, and of a step a question or what is to be signed. */
+static int is_written(sdjwt_status status) {
+    return status == SDJWT_DONE || status == SDJWT_REFUSED || status == SDJWT_UNREADABLE ||
+           (chosen == call_step && (status == SDJWT_ASKS || status == SDJWT_TO_SIGN));
+}
+
 /* One call with so much room: what is written is a line at the front, and what lies behind it stays. */
 static sdjwt_status with_room(const input *given, size_t room, uint8_t **out, size_t *len) {
     *out = malloc(room + SPARE);
     memset(*out, 0xa5, room + SPARE);
     sdjwt_status status = chosen(given, *out, room, len);
     size_t written = 0;
-    if (status == SDJWT_DONE || status == SDJWT_REFUSED || status == SDJWT_UNREADABLE) {
+    if (is_written(status)) {
         check(*len <= room, "an answer is longer than its room");
-        int is_line = *len == 0 || (*out)[*len - 1] == '\n';
-        check(is_line != (chosen == call_ask && status == SDJWT_DONE), "an answer does not end its line, or a text has an end");
+        int is_line = *len == 0 || (*out)[*len - 1] == '\n', is_signed = chosen == call_ask && status == SDJWT_DONE;
+        check(is_line != (is_signed || status == SDJWT_TO_SIGN), "an answer does not end its line, or a text has an end");
         written = *len;
     } else if (status == SDJWT_UNWRITTEN) {
         check(*len > room, "an answer that has room is not written");
@@ -189,7 +209,7 @@ int LLVMFuzzerTestOneInput(const uint8_t *data, size_t size) {
     sdjwt_status status = with_room(&given, size / 2, &out, &len);
     sdjwt_status other = with_room(&given, len, &again, &again_len);
     if (status == SDJWT_UNWRITTEN) {
-        check(other == SDJWT_DONE || other == SDJWT_REFUSED || other == SDJWT_UNREADABLE, "no answer with enough room");
+        check(is_written(other), "no answer with enough room");
     } else {
         check(other == status && memcmp(out, again, len) == 0, "the same call has another answer");
     }

@@ -1,7 +1,7 @@
 #!/bin/sh
 # Fuzzes the calls of the C library by libFuzzer, one after the other, under AddressSanitizer.
 #
-#   sh c/fuzz/run.sh [--install] SECONDS [CALL ..]      so long each call: verify, present, issue, ask, sign, show,
+#   sh c/fuzz/run.sh [--install] SECONDS [CALL ..]      so long each call: verify, present, issue, ask, sign, step, sent, show,
 #                                                       convert, audit, wallet and policy, or those that are named
 #
 # It builds the library without proofs, with the counters by which libFuzzer sees which code an input reaches; so it
@@ -22,7 +22,7 @@ fi
 [ $# -ge 1 ] || refuse 'usage: sh c/fuzz/run.sh [--install] SECONDS [CALL ..]'
 seconds=$1
 shift
-[ $# -gt 0 ] || set -- verify present issue ask sign show convert audit wallet policy
+[ $# -gt 0 ] || set -- verify present issue ask sign step sent show convert audit wallet policy
 for tool in rt "${CLANG:=clang}" nm objcopy python3; do
     command -v "$tool" >/dev/null || refuse "there is no $tool on the path"
 done

@@ -353,6 +353,66 @@ static void signing(void) {
     free(zeros);
 }
 
+/* What is said of a present order without keys, over a token of ES256: the next step, and what is presented with a signature of zeros. */
+#define HELD "eyJhbGciOiJFUzI1NiJ9.eyJhIjoxfQ.AA~"
+#define ASKED "{\"alg\":\"ES256\",\"ask\":\"issuer\",\"signature\":\"AA\",\"text\":\"eyJhbGciOiJFUzI1NiJ9.eyJhIjoxfQ\"}\n"
+#define BINDING "eyJhbGciOiJFUzI1NiIsInR5cCI6ImtiK2p3dCJ9." \
+    "eyJhdWQiOiJhIiwiaWF0Ijo3LCJub25jZSI6Im4iLCJzZF9oYXNoIjoiZFFJdmxsM19PQXpmeWJkbmEzLUd1ZWQzbWFGbW9KaGh5YWRRYjFzTUdxSSJ9"
+#define WISH "{\"algs\":[\"ES256\"],\"binding\":{\"alg\":\"ES256\",\"aud\":\"a\",\"nonce\":\"n\"}}"
+#define UNBOUND "{\"algs\":[\"ES256\"],\"want\":[\"/a\"]}"
+#define PRESENTS(word) "{\"algs\":[\"ES256\"]," word "}"
+static const struct { const char *order, *token; uint8_t said; size_t signature_len; sdjwt_status asked, signs; const char *text, *shown; } presentings[] = {
+    {WISH, HELD, SDJWT_UNSAID, 1, SDJWT_ASKS, SDJWT_USAGE, ASKED, ""},
+    {WISH, HELD, SDJWT_GOOD, 1, SDJWT_TO_SIGN, SDJWT_DONE, BINDING, HELD BINDING ".AA\n"},
+    {WISH, HELD, SDJWT_GOOD, 2, SDJWT_TO_SIGN, SDJWT_DONE, BINDING, HELD BINDING ".AAA\n"},
+    {WISH, HELD, SDJWT_GOOD, 0, SDJWT_TO_SIGN, SDJWT_USAGE, BINDING, ""},
+    {WISH, HELD, SDJWT_GOOD, TOO_LONG, SDJWT_TO_SIGN, SDJWT_REFUSED, BINDING, "refused 75 presentTooLong\n"},
+    {WISH, HELD, SDJWT_BAD, 1, SDJWT_REFUSED, SDJWT_REFUSED, "refused 10 badSignature\n", "refused 10 badSignature\n"},
+    {WISH, HELD, SDJWT_UNKNOWN, 1, SDJWT_REFUSED, SDJWT_REFUSED, "refused 9 issuerKeyUnknown\n", "refused 9 issuerKeyUnknown\n"},
+    {WISH, HELD, 4, 1, SDJWT_USAGE, SDJWT_USAGE, "", ""},
+    {"{", "", 255, 0, SDJWT_USAGE, SDJWT_USAGE, "", ""},
+    {UNBOUND, HELD, SDJWT_GOOD, 1, SDJWT_DONE, SDJWT_DONE, HELD "\n", HELD "\n"},
+    {UNBOUND, HELD, SDJWT_UNSAID, 1, SDJWT_ASKS, SDJWT_USAGE, ASKED, ""},
+    {UNBOUND, "", SDJWT_GOOD, 1, SDJWT_REFUSED, SDJWT_REFUSED, "refused 2 form at 0\n", "refused 2 form at 0\n"},
+    {PRESENTS("\"want\":[\"/b\"]"), HELD, SDJWT_GOOD, 1, SDJWT_REFUSED, SDJWT_REFUSED, "refused 72 wantedNotThere at 0\n", "refused 72 wantedNotThere at 0\n"},
+    {PRESENTS("\"keys\":{\"keys\":[]}"), HELD, SDJWT_GOOD, 1, SDJWT_UNREADABLE, SDJWT_UNREADABLE, "unreadable 1 unknown\n", "unreadable 1 unknown\n"},
+    {"{\"want\":[]}", HELD, SDJWT_GOOD, 1, SDJWT_UNREADABLE, SDJWT_UNREADABLE, "unreadable 1 missing algs\n", "unreadable 1 missing algs\n"},
+    {"{\"algs\":[]}", HELD, SDJWT_GOOD, 1, SDJWT_REFUSED, SDJWT_REFUSED, "refused 7 algRefused\n", "refused 7 algRefused\n"},
+    {PRESENTS("\"binding\":{\"alg\":\"none\",\"aud\":\"a\",\"nonce\":\"n\"}"), HELD, SDJWT_GOOD, 1, SDJWT_UNREADABLE, SDJWT_UNREADABLE,
+     "unreadable 1 wrong binding\n", "unreadable 1 wrong binding\n"},
+    {PRESENTS("\"binding\":{\"alg\":\"\",\"aud\":\"a\",\"nonce\":\"n\"}"), HELD, SDJWT_GOOD, 1, SDJWT_UNREADABLE, SDJWT_UNREADABLE,
+     "unreadable 1 wrong binding\n", "unreadable 1 wrong binding\n"},
+    {PRESENTS("\"binding\":{\"alg\":\"X\",\"aud\":\"a\",\"nonce\":\"n\",\"kid\":1}"), HELD, SDJWT_GOOD, 1, SDJWT_UNREADABLE, SDJWT_UNREADABLE,
+     "unreadable 1 wrong binding\n", "unreadable 1 wrong binding\n"},
+    {PRESENTS("\"binding\":{\"alg\":\"X\",\"aud\":\"a\",\"nonce\":\"n\",\"kid\":\"k\"}"), HELD, SDJWT_GOOD, 1, SDJWT_REFUSED, SDJWT_REFUSED,
+     "refused 74 bindingKeyDiffers\n", "refused 74 bindingKeyDiffers\n"},
+};
+
+/* Each with a room that just fits, one that is larger and those that are too small, at the moment 7. */
+static void presenting(void) {
+    uint8_t *zeros = room_of(TOO_LONG), out[512];
+    memset(zeros, 0, TOO_LONG);
+    for (size_t i = 0; i < sizeof presentings / sizeof *presentings; i++) {
+        const uint8_t *order = (const uint8_t *)presentings[i].order, *token = (const uint8_t *)presentings[i].token;
+        size_t order_len = strlen(presentings[i].order), token_len = strlen(presentings[i].token);
+        uint8_t said = presentings[i].said;
+        int calls = presentings[i].signature_len == TOO_LONG ? 2 : 8;
+        for (int which = 0; which < calls; which++) {
+            const char *text = which % 2 ? presentings[i].shown : presentings[i].text;
+            size_t due = strlen(text), sizes[] = {due, due + BEHIND, due ? due - 1 : 0, 0}, room = sizes[which / 2], len = 12345;
+            memset(out, FILL, sizeof out);
+            sdjwt_status status = which % 2
+                ? sdjwt_present_sign(order, order_len, token, token_len, 7, said, zeros, presentings[i].signature_len, out, room, &len)
+                : sdjwt_present_ask(order, order_len, token, token_len, 7, said, out, room, &len);
+            CHECK(len == due, text);
+            if (room < due) CHECK(status == SDJWT_UNWRITTEN && is_filled(out, 0, sizeof out), text);
+            else CHECK(status == (which % 2 ? presentings[i].signs : presentings[i].asked), text);
+            if (room >= due) CHECK(memcmp(out, text, due) == 0 && is_filled(out, due, sizeof out), text);
+        }
+    }
+    free(zeros);
+}
+
 /* A handle that another thread made is used here, and freed. */
 static void *take_over(void *handle) {
     uint8_t line[128];
@@ -459,6 +519,7 @@ int main(int count, char **words) {
     rules_of_lengths();
     judging();
     signing();
+    presenting();
     for (int refused = 0; refused < 2; refused++) {
         const struct vector *vector = verifying(refused ? SDJWT_REFUSED : SDJWT_DONE);
         const struct run *run = &vector->runs[0];

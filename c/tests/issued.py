@@ -14,7 +14,7 @@ from pathlib import Path
 
 P_256 = ("EC", "-pkeyopt", "ec_paramgen_curve:P-256")
 OTHERS = (("EC", "-pkeyopt", "ec_paramgen_curve:P-384"), ("EC", "-pkeyopt", "ec_paramgen_curve:secp256k1"), ("ED25519",), ("RSA",))
-PAYLOAD = {"iss": "https://tickets.example", "_sd_alg": "sha-256"}
+PAYLOAD = {"iss": "https://tickets.example", "cnf": {"kid": "ada"}, "_sd_alg": "sha-256"}
 
 
 def made_key(folder, name, kind):
@@ -58,18 +58,18 @@ def main():
         for _ in range(20):
             status, token, line = ran(program, private.read_bytes())
             assert (status, line) == (0, ""), (status, line)
-            jwt, disclosure, end = token.split("~")
+            jwt, *disclosures, end = token.split("~")
             head, body, signature = jwt.split(".")
-            digest = base64.urlsafe_b64encode(hashlib.sha256(disclosure.encode()).digest()).rstrip(b"=").decode()
+            digests = [base64.urlsafe_b64encode(hashlib.sha256(text.encode()).digest()).rstrip(b"=").decode() for text in disclosures]
             assert json.loads(decoded(head)) == {"alg": "ES256", "kid": "tickets-1"} and end == "\n", token
-            assert json.loads(decoded(body)) == {**PAYLOAD, "_sd": [digest]}, token
-            salt, *claim = json.loads(decoded(disclosure))
-            assert claim == ["name", "Ada"], claim
-            salts.add(salt)
+            assert json.loads(decoded(body)) == {**PAYLOAD, "_sd": sorted(digests)}, token
+            claims = [json.loads(decoded(text)) for text in disclosures]
+            assert [claim[1:] for claim in claims] == [["name", "Ada"], ["seat", "B12"]], claims
+            salts.update(claim[0] for claim in claims)
             text, pair = f"{head}.{body}".encode(), decoded(signature)
             assert len(pair) == 64 and is_good(folder, public, text, pair)
             assert not is_good(folder, other, text, pair) and not is_good(folder, public, text + b".", pair)
-        assert len(salts) == 20, salts
+        assert len(salts) == 40, salts
         for number, kind in enumerate(OTHERS):
             assert ran(program, made_key(folder, str(number), kind)[0].read_bytes()) == (2, "", ""), kind
         for given in (b"", b"no key", public.read_bytes()):

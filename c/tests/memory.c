@@ -94,6 +94,15 @@ static sdjwt_status ask_for(int is_signed, struct text *out) {
     return sdjwt_issue_sign(given, strlen(asked), alg, 5, seed.bytes, seed.len, (const uint8_t *)"s", 1, out->bytes, ROOM, &out->len);
 }
 
+/* A present order without keys, over a token of ES256: the next step, and what is presented with the signature of one byte. */
+static sdjwt_status ask_to_present(int is_signed, uint8_t said, struct text *out) {
+    static const char wish[] = "{\"algs\":[\"ES256\"],\"want\":[\"/a\"],\"never\":[\"/b\"],\"binding\":{\"alg\":\"ES256\",\"aud\":\"a\",\"nonce\":\"n\"}}",
+                      held[] = "eyJhbGciOiJFUzI1NiJ9.eyJhIjoxfQ.AA~";
+    const uint8_t *given = (const uint8_t *)wish, *shows = (const uint8_t *)held;
+    if (!is_signed) return sdjwt_present_ask(given, strlen(wish), shows, strlen(held), NOW, said, out->bytes, ROOM, &out->len);
+    return sdjwt_present_sign(given, strlen(wish), shows, strlen(held), NOW, said, (const uint8_t *)"s", 1, out->bytes, ROOM, &out->len);
+}
+
 static sdjwt_status call(int which, struct text *out) {
     switch (which) {
     case 0: return sdjwt_issue(order.bytes, order.len, seed.bytes, seed.len, out->bytes, ROOM, &out->len);
@@ -110,11 +119,14 @@ static sdjwt_status call(int which, struct text *out) {
     case 11: return ask_signature(SDJWT_GOOD, out);
     case 12: return ask_for(0, out);
     case 13: return ask_for(1, out);
+    case 14: return ask_to_present(0, SDJWT_UNSAID, out);
+    case 15: return ask_to_present(0, SDJWT_GOOD, out);
+    case 16: return ask_to_present(1, SDJWT_GOOD, out);
     default: return sdjwt_verify(policy.bytes, policy.len, token.bytes, token.len, NOW, out->bytes, ROOM, &out->len);
     }
 }
 
-#define CALLS 15
+#define CALLS 18
 
 int main(int count, char **words) {
     static struct text due, out;
@@ -128,7 +140,7 @@ int main(int count, char **words) {
     for (int which = 0; which < CALLS; which++) {
         refused = 0;
         sdjwt_status status = call(which, &due);
-        CHECK(status == (which == CALLS - 1 ? SDJWT_REFUSED : which == 10 ? SDJWT_ASKS : SDJWT_DONE), "the call");
+        CHECK(status == (which == CALLS - 1 ? SDJWT_REFUSED : which == 10 || which == 14 ? SDJWT_ASKS : which == 15 ? SDJWT_TO_SIGN : SDJWT_DONE), "the call");
         long held = taken;
         CHECK(which == 6 || which == 7 ? held > 0 : held == 0, "what it keeps");
         for (refused = 1;; refused++) {

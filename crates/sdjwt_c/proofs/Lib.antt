@@ -5,3 +5,4 @@ pub mod Cutting
 pub mod ListTexts
 pub mod Tellings
 pub mod Signings
+pub mod Presentings

@@ -9,3 +9,5 @@ pub mod Results
 pub mod Said
 pub mod Tokens
 pub mod Signing
+pub mod Presenting
+pub mod PresentingSteps

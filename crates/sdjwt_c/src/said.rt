@@ -13,7 +13,7 @@ use std::alloc::Global;
 use verifier_core::{Answers, Policy};
 
 // What was said of a signature.
-fn answer_of(number: u8) -> Option<SignatureAnswer>
+pub(crate) fn answer_of(number: u8) -> Option<SignatureAnswer>
     ensures { result ≡ answer_numbered number }
 {
     match number {

@@ -14,7 +14,7 @@ use std::alloc::Global;
 use verifier_core::{Answers, JudgeError, Judgement, Policy, judge};
 
 // The status of a question, and that of an answer that was not asked for.
-const ASKS: u8 = 7;
+pub(crate) const ASKS: u8 = 7;
 
 const NOT_ASKED: u8 = 8;
 
@@ -88,7 +88,7 @@ pub(crate) fn judge_file(alloc: Global, file: &[u8], case: Case<'_>) -> Result<V
 }
 
 // Writes the whole text, and answers this number; or nothing where there is no room for it.
-fn give_as(text: &str, number: u8, room: &mut [u8], len: &mut usize) -> u8
+pub(crate) fn give_as(text: &str, number: u8, room: &mut [u8], len: &mut usize) -> u8
     ensures { HandsAs number text.now room.old room.new len.new result }
 {
     match give(text, Status::Done, room, len) {
