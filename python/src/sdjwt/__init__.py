@@ -15,9 +15,9 @@ A token may come from a stranger, so each call that takes one bounds its length 
 >>> sdjwt.verify({"keys": keys, "iss": "tickets"}, shown)
 {'iss': 'tickets', 'seat': 'B12'}
 
-A key of an order is shared (HMAC): whoever verifies such a token can make one. With `sign` a token is issued with a private
-key, of which verifiers have the public one, by the package cryptography, which `sdjwt[keys]` installs. Tokens that others signed
-so are verified too. What is presented is signed with shared keys alone.
+A key of an order is shared (HMAC): whoever verifies such a token can make one. With `sign` a token is issued, and presented, with
+a private key, of which verifiers have the public one, by the package cryptography, which `sdjwt[keys]` installs. Tokens that others
+signed so are verified too. A wallet takes tokens that are signed with shared keys alone.
 """
 from __future__ import annotations
 
@@ -32,9 +32,10 @@ from sdjwt import _library
 from sdjwt._asking import Asking, CheckFunction, Question, asking_of
 from sdjwt._built import PROVED as proved
 from sdjwt._built import VERSION as __version__
-from sdjwt._detail import UNSIGNED
+from sdjwt._detail import ASKED, UNSIGNED
 from sdjwt._errors import NoCryptography, OutOfMemory, Refused, SdJwtError, TooLong, Unreadable, unreadable
 from sdjwt._given import MOST, file_bytes, held_bytes, moment, seed_bytes, token_bytes
+from sdjwt._presenting import presenting_of
 from sdjwt._signing import SignFunction, signer_of
 
 if TYPE_CHECKING:
@@ -109,7 +110,10 @@ def issue(
     return _without_end(_answer(*_library.call("issue", ordered, salted), ("order", ordered), ("seed", salted)))
 
 
-def present(order: Json, token: Json, now: float | None = None, *, most: int = MOST) -> str:
+def present(
+    order: Json, token: Json, now: float | None = None, *, most: int = MOST,
+    sign: PrivateKey | SignFunction | None = None, alg: str | None = None, check: CheckFunction | None = None,
+) -> str:
     """What a holder presents of a token, in its compact form.
 
     The moment is in seconds since 1970, which a key binding token tells; it is now where none is given.
@@ -120,9 +124,25 @@ def present(order: Json, token: Json, now: float | None = None, *, most: int = M
     >>> shown = present({"keys": keys, "want": ["/age"], "never": ["/name"]}, token)
     >>> [disclosure["name"] for disclosure in show(shown)["disclosures"]]
     ['age']
+
+    A token that is signed with a private key is presented by an order that has the public keys of issuers in `keys`, and in `algs`
+    the algorithms that are taken of them, as a policy has them; `check` is a function for other keys, as in `Policy`. Its `binding`
+    has `aud` and `nonce` and no key: `sign` makes the signature of the key binding token, and `alg` names its algorithm, as in
+    `issue`. Where `binding` has a `kid`, the claim `cnf` of what is shown has to name it; else which key the holder signs with is
+    not looked at. `sign` is asked once, and not for what 71 to 74, or a condition of the token, refuse.
+
+    >>> token = issue({"payload": {"name": "Ada", "age": 7}, "hide": ["/name", "/age"]}, sign=lambda text: bytes(64), alg="ES256")
+    >>> order = {"algs": ["ES256"], "want": ["/age"], "binding": {"aud": "https://door.example", "nonce": "4711"}}
+    >>> shown = present(order, token, check=lambda question: True, sign=lambda text: bytes(64), alg="ES256")
+    >>> show(shown)["binding"] is None, len(show(shown)["disclosures"])
+    (False, 1)
     """
     ordered = file_bytes(order, "order")
-    called = _library.call("present", ordered, token_bytes(token, most), moment(now))
+    given, at = token_bytes(token, most), moment(now)
+    presenting = presenting_of(ordered, check, sign, alg)
+    if presenting is not None:
+        return _without_end(_answer(*presenting.present(given, at), (ASKED, ordered)))
+    called = _library.call("present", ordered, given, at)
     return _without_end(_answer(*called, ("present order", ordered)))
 
 

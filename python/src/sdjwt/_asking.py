@@ -41,56 +41,27 @@ class Question:
 CheckFunction = Callable[[Question], Optional[bool]]
 
 
-class Asking:
-    """What answers the questions about the tokens of a policy. `file` is the policy as the library takes it."""
+class Checking:
+    """What is said of signatures: under the public keys of issuers and of holders, or by a function of the caller."""
 
-    __slots__ = ("_algs", "_check", "_has_shared", "_holders", "_issuers", "_policy", "file")
+    __slots__ = ("check", "holders", "issuers")
 
-    def __init__(self, policy: dict[str, Any], text: bytes, check: CheckFunction | None) -> None:
-        self._policy, self._check = policy, check
-        self._has_shared = any(jwk.get("kty") == "oct" for jwk in _jwks(policy))
-        self._issuers: list[PublicKey] = []
-        self._holders: list[PublicKey] = []
-        self._algs, self.file = b"", text
-        binding = policy.get("binding")
-        if isinstance(binding, dict) and "algs" in binding:
-            self._algs = json.dumps(binding["algs"]).encode()
-            rest = {name: value for name, value in binding.items() if name != "algs"}
-            self.file = json.dumps({**policy, "binding": rest}).encode()
+    def __init__(self, check: CheckFunction | None) -> None:
+        self.check = check
+        self.issuers: list[PublicKey] = []
+        self.holders: list[PublicKey] = []
 
-    def read_keys(self) -> None:
-        """Reads the public keys, of a policy that the library has taken."""
-        self._issuers = _public_keys(self._policy, "keys", "")
-        binding = self._policy.get("binding")
-        if binding is None:
-            return
-        self._holders = _public_keys(binding, "binding", "/binding")
-        algs = binding.get("algs", [])
-        if not isinstance(algs, list) or not all(isinstance(alg, str) for alg in algs):
-            raise Unreadable("unreadable 1 wrong binding", "at /binding/algs: it is to be a list of texts")
-
-    def verify(self, handle: Handle, token: bytes, now: int) -> tuple[int, bytes]:
-        """The status, and the claims or the line."""
-        status, said = handle.judge(self._algs, token, now, UNSAID, UNSAID)
-        if status == ASKS:
-            issuer = self._answer(said)
-            status, said = handle.judge(self._algs, token, now, issuer, UNSAID)
-            if status == ASKS:
-                status, said = handle.judge(self._algs, token, now, issuer, self._answer(said))
-        elif status == REFUSED and self._has_shared and said.startswith(_OTHER_ALG):
-            return handle.verify(token, now)
-        return status, said
-
-    def _answer(self, question: bytes) -> int:
+    def answer(self, question: bytes) -> int:
+        """What is said of the signature of a question."""
         asked = _read_json(question.decode())[0]
         alg, text, signature = asked["alg"], asked["text"].encode(), decoded(asked["signature"])
         payload = asked.get("payload")
-        check = find(self._issuers, alg, asked.get("kid")) if payload is None else self._of_holder(payload, alg)
+        check = find(self.issuers, alg, asked.get("kid")) if payload is None else self._of_holder(payload, alg)
         if check is not None:
             return GOOD if check(signature, text) else BAD
-        if self._check is None:
+        if self.check is None:
             return UNKNOWN
-        return _said(self._check(Question(asked["ask"], alg, asked.get("kid"), asked.get("typ"), text, signature, payload)))
+        return _said(self.check(Question(asked["ask"], alg, asked.get("kid"), asked.get("typ"), text, signature, payload)))
 
     def _of_holder(self, payload: dict[str, Any], alg: str) -> Check | None:
         """The check under the key that `cnf` has, or names among those of the binding (RFC 7800 section 3)."""
@@ -99,7 +70,7 @@ class Asking:
             return None
         if "jwk" not in confirmed:
             kid = confirmed.get("kid")
-            return find(self._holders, alg, kid) if isinstance(kid, str) else None
+            return find(self.holders, alg, kid) if isinstance(kid, str) else None
         jwk = confirmed["jwk"]
         if not isinstance(jwk, dict) or alg not in serves(jwk):
             return None
@@ -110,28 +81,72 @@ class Asking:
         return None if key is None else key.checks[alg]
 
 
-def asking_of(text: bytes, check: CheckFunction | None) -> Asking | None:
-    """How a policy asks. None where the library checks by itself: it has oct keys alone, or takes no other algorithm."""
+class Asking:
+    """What answers the questions about the tokens of a policy. `file` is the policy as the library takes it."""
+
+    __slots__ = ("_algs", "_checking", "_has_shared", "_policy", "file")
+
+    def __init__(self, policy: dict[str, Any], text: bytes, check: CheckFunction | None) -> None:
+        self._policy, self._checking = policy, Checking(check)
+        self._has_shared = any(jwk.get("kty") == "oct" for jwk in _jwks(policy))
+        self._algs, self.file = b"", text
+        binding = policy.get("binding")
+        if isinstance(binding, dict) and "algs" in binding:
+            self._algs = json.dumps(binding["algs"]).encode()
+            rest = {name: value for name, value in binding.items() if name != "algs"}
+            self.file = json.dumps({**policy, "binding": rest}).encode()
+
+    def read_keys(self) -> None:
+        """Reads the public keys, of a policy that the library has taken."""
+        self._checking.issuers = public_keys(self._policy, "keys", "")
+        binding = self._policy.get("binding")
+        if binding is None:
+            return
+        self._checking.holders = public_keys(binding, "binding", "/binding")
+        algs = binding.get("algs", [])
+        if not isinstance(algs, list) or not all(isinstance(alg, str) for alg in algs):
+            raise Unreadable("unreadable 1 wrong binding", "at /binding/algs: it is to be a list of texts")
+
+    def verify(self, handle: Handle, token: bytes, now: int) -> tuple[int, bytes]:
+        """The status, and the claims or the line."""
+        status, said = handle.judge(self._algs, token, now, UNSAID, UNSAID)
+        if status == ASKS:
+            issuer = self._checking.answer(said)
+            status, said = handle.judge(self._algs, token, now, issuer, UNSAID)
+            if status == ASKS:
+                status, said = handle.judge(self._algs, token, now, issuer, self._checking.answer(said))
+        elif status == REFUSED and self._has_shared and said.startswith(_OTHER_ALG):
+            return handle.verify(token, now)
+        return status, said
+
+
+def need_function(check: object) -> None:
+    """What is given as `check` has to be a function."""
     if check is not None and not callable(check):
         raise TypeError(f"sdjwt: check is of type {type(check).__name__}, and has to be a function")
+
+
+def asking_of(text: bytes, check: CheckFunction | None) -> Asking | None:
+    """How a policy asks. None where the library checks by itself: it has oct keys alone, or takes no other algorithm."""
+    need_function(check)
     # in JSON a name can be written otherwise only by escapes
-    policy = _read(text) if check is not None or b"algs" in text or b"\\u" in text else None
+    policy = read_object(text) if check is not None or b"algs" in text or b"\\u" in text else None
     if policy is None:
         return None
-    if _takes_others(policy) and (check is not None or any(jwk.get("kty") != "oct" for jwk in _jwks(policy))):
+    if takes_others(policy) and (check is not None or any(jwk.get("kty") != "oct" for jwk in _jwks(policy))):
         return Asking(policy, text, check)
     if check is not None:
         raise ValueError("sdjwt: check is given, and no algorithm in algs of the policy is one that it is asked about")
     return None
 
 
-def _read(text: bytes) -> dict[str, Any] | None:
-    """The object of a policy, or None where the library is to say what is wrong with it."""
+def read_object(text: bytes) -> dict[str, Any] | None:
+    """The object of a policy or an order, or None where the library is to say what is wrong with it."""
     try:
-        policy = json.loads(text.decode(), parse_int=_whole)
+        read = json.loads(text.decode(), parse_int=_whole)
     except (ValueError, RecursionError):
         return None
-    return policy if isinstance(policy, dict) else None
+    return read if isinstance(read, dict) else None
 
 
 def _whole(digits: str) -> float:
@@ -139,7 +154,8 @@ def _whole(digits: str) -> float:
     return -0.0 if digits == "-0" else int(digits)
 
 
-def _takes_others(policy: dict[str, Any]) -> bool:
+def takes_others(policy: dict[str, Any]) -> bool:
+    """Whether `algs` has a name that is not of a shared key."""
     algs = policy.get("algs")
     return isinstance(algs, list) and any(alg not in _SHARED for alg in algs)
 
@@ -151,7 +167,8 @@ def _jwks(holder: dict[str, Any]) -> list[dict[str, Any]]:
     return [jwk if isinstance(jwk, dict) else {} for jwk in found] if isinstance(found, list) else []
 
 
-def _public_keys(holder: dict[str, Any], member: str, place: str) -> list[PublicKey]:
+def public_keys(holder: dict[str, Any], member: str, place: str) -> list[PublicKey]:
+    """The public keys of the set in the member `keys`."""
     found = []
     for number, jwk in enumerate(_jwks(holder)):
         try:

@@ -326,18 +326,18 @@ def _one_of(words: Iterable[str]) -> Check:
     return check_word
 
 
-def _just(checks: dict[str, Check]) -> Check:
-    """An object of just these members."""
+def _just(checks: dict[str, Check], free: tuple[str, ...] = ()) -> Check:
+    """An object of just these members, of which those that are free may be missing."""
     def check_object(value: Any, place: str, file: dict[str, Any]) -> str:
         if not isinstance(value, dict):
             return _at(place, f"it is {_is(value)}, and has to be an object of just {_names(checks)}")
         others = [name for name in value if name not in checks]
-        missing = [name for name in checks if name not in value]
+        missing = [name for name in checks if name not in value and name not in free]
         if others:
             return _at(place, f"it has {_names(others)}, and has to have just {_names(checks)}")
         if missing:
             return _at(place, f"{_names(missing)} is missing")
-        return _first(checks[name](value[name], f"{place}/{name}", file) for name in checks)
+        return _first(checks[name](value[name], f"{place}/{name}", file) for name in checks if name in value)
     return check_object
 
 
@@ -398,6 +398,11 @@ def _key_set(value: Any, place: str, file: dict[str, Any]) -> str:
     return wrong or _first(_at(at, why) for at, why in said if why)
 
 
+def key_set_fault(value: Any) -> str:
+    """What is wrong with the key set in `keys`, and nothing where it is one."""
+    return _key_set(value, "/keys", {})
+
+
 def _version(value: Any, place: str, file: dict[str, Any]) -> str:
     if isinstance(value, int) and not isinstance(value, bool):
         return "" if value in (1, 2) else _at(place, "it has to be 1 or 2")
@@ -431,18 +436,20 @@ class _Member(NamedTuple):
     is_required: bool = False
 
 
+# The order of who signs by itself, and the present order of who checks too. The program reads neither.
+UNSIGNED = "order without a key"
+ASKED = "present order with public keys"
 _POINTERS = _list_of(_pointer)
 _AUDIENCE = _by_version(_short_text, _list_of(_short_text, 1, 16))
 _BINDINGS: dict[str, dict[str, Check]] = {
     "policy": {"aud": _AUDIENCE, "nonce": _short_text, "keys": _key_set, "max_age": _whole(2**32 - 1)},
     "present order": {"key": _key, "kid": _text, "aud": _short_text, "nonce": _short_text},
+    ASKED: {"alg": _text, "kid": _text, "aud": _short_text, "nonce": _short_text},
 }
 _ORDER = (
     _Member("payload", _any, True), _Member("hide", _POINTERS),
     _Member("decoys", _list_of(_just({"at": _pointer, "count": _whole(_COUNT_MAX)}))), _Member("key", _key, True),
     _Member("kid", _text), _Member("typ", _text), _Member("alg", _alg), _Member("sd_alg", _one_of(_HASHES)))
-# The order of who signs by itself. The program reads none.
-UNSIGNED = "order without a key"
 _FORMS: dict[str, tuple[_Member, ...]] = {
     "policy": (
         _Member("version", _version), _Member("keys", _key_set, True), _Member("algs", _list_of(_text)), _Member("typ", _text),
@@ -452,15 +459,18 @@ _FORMS: dict[str, tuple[_Member, ...]] = {
     UNSIGNED: tuple(member for member in _ORDER if member.name not in ("key", "alg")),
     "present order": (
         _Member("keys", _key_set, True), _Member("want", _POINTERS), _Member("never", _POINTERS), _Member("binding", _just(_BINDINGS["present order"]))),
+    ASKED: (
+        _Member("keys", _key_set), _Member("algs", _list_of(_text), True), _Member("want", _POINTERS), _Member("never", _POINTERS),
+        _Member("binding", _just(_BINDINGS[ASKED], ("alg", "kid")))),
     "query": (
         _Member("keys", _key_set, True), _Member("want", _POINTERS),
         _Member("equal", _list_of(_just({"at": _pointer, "value": _plain}))), _Member("never", _POINTERS)),
 }
-KINDS = (*(kind for kind in _FORMS if kind != UNSIGNED), "seed")
+KINDS = (*(kind for kind in _FORMS if kind not in (UNSIGNED, ASKED)), "seed")
 
 
 def fault(kind: str, content: bytes) -> Fault | None:
-    """The first fault of what a file of a kind has in it. `kind` is one of KINDS, or UNSIGNED."""
+    """The first fault of what a file of a kind has in it. `kind` is one of KINDS, UNSIGNED or ASKED."""
     if kind == "seed":
         short = len(content) < _SEED_LEN
         return Fault("short", f"it has {len(content)} bytes, of the at least {_SEED_LEN} that a seed has") if short else None

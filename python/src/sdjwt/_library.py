@@ -8,7 +8,7 @@ from ctypes import POINTER, addressof, c_char_p, c_size_t, c_uint8, c_uint32, c_
 from pathlib import Path
 from typing import Any
 
-DONE, REFUSED, USAGE, UNWRITTEN, MEMORY, UNREADABLE, ASKS, NOT_ASKED = 0, 1, 2, 4, 5, 6, 7, 8
+DONE, REFUSED, USAGE, UNWRITTEN, MEMORY, UNREADABLE, ASKS, NOT_ASKED, TO_SIGN = 0, 1, 2, 4, 5, 6, 7, 8, 9
 # What is said of a signature.
 UNSAID, UNKNOWN, BAD, GOOD = 0, 1, 2, 3
 _ABI_VERSION = 1
@@ -26,6 +26,8 @@ _CALLS: dict[str, tuple[Any, ...]] = {
     "issue_ask": (*_IN, *_IN, *_IN, *_OUT),
     "issue_sign": (*_IN, *_IN, *_IN, *_IN, *_OUT),
     "present": (*_IN, *_IN, c_uint64, *_OUT),
+    "present_ask": (*_IN, *_IN, c_uint64, c_uint8, *_OUT),
+    "present_sign": (*_IN, *_IN, c_uint64, c_uint8, *_IN, *_OUT),
     "verify": (*_IN, *_IN, c_uint64, *_OUT),
     "show": (*_IN, *_OUT),
     "split": (*_IN, *_OUT),
