@@ -85,7 +85,9 @@ words_of() {
 # The code that reads policies, orders, present orders and queries.
 readers() {
     cat "$top/crates/verifier_core/src/policy.rt" "$top/crates/issuer_core/src/order_file.rt" \
-        "$top/crates/holder_core/src/present_file.rt" "$top/crates/wallet_core/src/query_file.rt"
+        "$top/crates/wallet_core/src/query_file.rt"
+    # the programs read no present order without keys
+    sed '/^fn algs_member/,/^}/d' "$top/crates/holder_core/src/present_file.rt"
 }
 
 in_code() {
