@@ -112,7 +112,7 @@ class Public:
         signature = b"".join(number.to_bytes(32, "big") for number in pair_of)
         self.token = f"{text}.{encoded(signature)}~{behind}".encode()
         self.policy = sdjwt.Policy({**POLICY, "keys": {"keys": [jwk]}, "algs": ["ES256"]})
-        check = self.policy._asking._issuers[0].checks["ES256"]
+        check = self.policy._asking._checking.issuers[0].checks["ES256"]
         self.check = lambda: check(signature, text.encode())
         # the same, where the answer costs nothing
         self.unchecked = sdjwt.Policy({**POLICY, "keys": {"keys": []}, "algs": ["ES256"]}, check=lambda question: True)
