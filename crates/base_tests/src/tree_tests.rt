@@ -30,9 +30,7 @@ fn the_last_member_of_a_name_counts(rt: HostRuntime) -> Result<(), Fail> {
 #[test]
 fn a_copy_is_the_same_tree(rt: HostRuntime) -> Result<(), Fail> {
     let text =
-        r#"{"address":{"country":"US","locality":"Anytown","region":"Anystate","street_address":"123
-            Main
-            St"},"birthdate":"1940-01-01","cnf":{"kid":"h1"},"email":"johndoe@example.com","exp":1883000000,"family_name":"Doe","given_name":"John","iat":1683000000,"iss":"https://issuer.example","nationalities":["US","DE"],"sub":"user_42"}"#;
+        r#"{"address":{"country":"US","locality":"Anytown","region":"Anystate","street_address":"123 Main St"},"birthdate":"1940-01-01","cnf":{"kid":"h1"},"email":"johndoe@example.com","exp":1883000000,"family_name":"Doe","given_name":"John","iat":1683000000,"iss":"https://issuer.example","nationalities":["US","DE"],"sub":"user_42"}"#;
     let tree = copy(rt.alloc(), &value(rt.alloc(), text)?)?;
     assert_eq!(rt; write(rt.alloc(), &tree)?.as_str(), text);
     Ok(())

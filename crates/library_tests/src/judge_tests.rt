@@ -67,9 +67,7 @@ fn judged(alloc: Global, file: &str, holder_alg: &str, answers: Answers) -> Resu
 
 // The claims as the RFC prints them, in the order of their names.
 const CLAIMS: &str =
-    r#"{"address":{"country":"US","locality":"Anytown","region":"Anystate","street_address":"123
-        Main
-        St"},"cnf":{"jwk":{"crv":"P-256","kty":"EC","x":"TCAER19Zvu3OHF4j4W4vfSVoHIP1ILilDls7vCeGemc","y":"ZxjiWWbZMQGHVWKVQ4hbSIirsVfuecCE6t4jT9F2HZQ"}},"exp":1883000000,"family_name":"Doe","given_name":"John","iat":1683000000,"iss":"https://issuer.example.com","nationalities":["US"],"sub":"user_42"}"#;
+    r#"{"address":{"country":"US","locality":"Anytown","region":"Anystate","street_address":"123 Main St"},"cnf":{"jwk":{"crv":"P-256","kty":"EC","x":"TCAER19Zvu3OHF4j4W4vfSVoHIP1ILilDls7vCeGemc","y":"ZxjiWWbZMQGHVWKVQ4hbSIirsVfuecCE6t4jT9F2HZQ"}},"exp":1883000000,"family_name":"Doe","given_name":"John","iat":1683000000,"iss":"https://issuer.example.com","nationalities":["US"],"sub":"user_42"}"#;
 
 fn told_claims(alloc: Global, before: &str) -> Result<TextBox, Fail> {
     told(alloc, before, CLAIMS)
