@@ -1,3 +1,4 @@
+// What keeps an audit from its answer.
 use compact_form::Fault;
 use sd_outside::NoMemory;
 

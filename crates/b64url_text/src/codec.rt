@@ -1,3 +1,4 @@
+// Bytes and their base64url texts (RFC 4648 section 5, without padding).
 ghost use Rattle.std.specs.Prelude.{◌≡◌, ◌≤◌, length, take, drop, IfOk, IfErr, IsErrOf};
 ghost use Rattle.b64url_text.specs.Base64url.{b64, Decodes};
 ghost use Rattle.b64url_text.specs.NotBase64.{IsNotBase64};

@@ -1,3 +1,4 @@
+// Which texts are base64url words, and how long they are.
 ghost use Rattle.std.specs.Prelude.{◌≡◌, ◌+◌, ◌≤◌, ◌↔◌, length, drop, IsTrue};
 ghost use Rattle.std.specs.List.{prefix_len};
 ghost use Rattle.b64url_text.specs.Base64url.{is_letter as letter_test, IsWord};

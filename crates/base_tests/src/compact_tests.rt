@@ -1,3 +1,4 @@
+// Tests of the compact form: parts that are kept, texts that are cut short.
 use compact_form::{FormError, Parts, check, parse};
 use std::alloc::Global;
 use std::test::Fail;

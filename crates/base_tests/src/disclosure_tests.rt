@@ -1,3 +1,4 @@
+// Tests of disclosures, made and read.
 ghost use Rattle.std.specs.Prelude.{◌≤◌};
 ghost use Rattle.claim_tree.specs.Tree.{depth};
 ghost use Rattle.claim_tree.specs.View.{tree_of};

@@ -1,3 +1,4 @@
+// Tests of HMAC keys, with the codes of RFC 4231 and RFC 7515.
 ghost use Rattle.std.specs.Prelude.{IfOk, IsTrue};
 ghost use Rattle.hmac_sign.specs.Agreement.{Agree};
 

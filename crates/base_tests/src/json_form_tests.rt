@@ -1,3 +1,4 @@
+// Tests of the two JSON forms of a token.
 ghost use Rattle.std.specs.Prelude.{IfOk};
 ghost use Rattle.json_form.specs.Printable.{IsPrintable};
 

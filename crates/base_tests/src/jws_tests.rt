@@ -1,3 +1,4 @@
+// Tests of JWS headers and payloads, with those of RFC 7515.
 use claim_tree::{TreeMap, write};
 use jws_part::{BodyError, Header, HeaderError, read_body, read_header};
 use sd_outside::TextBox;

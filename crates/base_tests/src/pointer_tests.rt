@@ -1,3 +1,4 @@
+// Tests of lists of paths.
 use crate::from_text::path;
 use claim_tree::{Path, PathList, is_prefix};
 use std::test::Fail;

@@ -1,3 +1,4 @@
+// Tests of the places where digests stand, and of given disclosures.
 use crate::from_text::value;
 use claim_tree::{Tree, Whole, print_path};
 use digest_sites::{Given, GivenList, Site, SiteError, SiteKind, SiteList, is_misused, sites};

@@ -1,3 +1,4 @@
+// Tests of JSON trees that no run of the program shows.
 use crate::from_text::value;
 use claim_tree::{ReadError, Tree, TreeList, TreeMap, Whole, copy, depth, get, read, write};
 use sd_outside::TextBox;

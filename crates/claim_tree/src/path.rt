@@ -1,3 +1,4 @@
+// Paths into trees: lists of steps, each a text.
 ghost use Rattle.std.specs.Prelude.{◌≡◌, ◌↔◌, ◌<◌, ◌≤◌, ◌-◌, ◌^◌, ◌++◌, List, ℕ, [], ◌∷◌, length, reverse, take, decimal, IfOk, OnOk, OnErr, slice_get, slice_index, Some, IsTrue, drop, option_map};
 ghost use Rattle.std.specs.Str.Iter.{LacksByte};
 ghost use Rattle.claim_tree.specs.Path.{is_front, pointer_text};

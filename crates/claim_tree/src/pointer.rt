@@ -1,3 +1,4 @@
+// JSON Pointers (RFC 6901), read and printed.
 ghost use Rattle.std.specs.Prelude.{◌≡◌, ◌<◌, ◌∷◌, ◌++◌, length, codes, string_bytes, IfOk, OnOk, IfSome, IfNone};
 ghost use Rattle.claim_tree.specs.Path.{escaped, pointer_text};
 ghost use Rattle.claim_tree.specs.PointerRefusals.{IsNoPointer, HasLoneTilde, HasNoSlash, EndsNoEscape};

@@ -1,3 +1,4 @@
+// A token in compact form, read up to its longest length.
 ghost use Rattle.std.specs.Prelude.{◌≡◌, IfOk, IfErr};
 ghost use Rattle.compact_form.specs.Trim.{trimmed, is_json as json_test, is_too_long as too_long_test};
 ghost use Rattle.compact_form.specs.CompactToken.{IsCompactRefused, ReadsCompact};

@@ -1,3 +1,4 @@
+// The 38 conditions of a verdict, with their numbers and names. The trusted core cites them.
 ghost use Rattle.std.specs.Prelude.{◌≡◌};
 ghost use Rattle.compact_form.specs.Faults.{fault_at as fault_of, unplaced};
 

@@ -1,3 +1,4 @@
+// A condition that fails, with its place. The trusted core cites it.
 ghost use Rattle.std.specs.Prelude.{◌≡◌};
 ghost use Rattle.compact_form.specs.declared.condition.Condition.{Condition};
 ghost use Rattle.compact_form.specs.Condition.{number_of};

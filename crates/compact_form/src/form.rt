@@ -1,3 +1,4 @@
+// Whether a text has the compact form (RFC 9901 section 4), and its parts.
 ghost use Rattle.std.specs.Prelude.{◌≡◌, ℕ, length, IfOk, IfErr};
 ghost use Rattle.compact_form.specs.declared.parts.Parts.{Parts as TheParts};
 ghost use Rattle.compact_form.specs.Compact.{IsCompact, IsMisformedAt};

@@ -1,3 +1,4 @@
+// A JWT that stands alone, cut at its full stops.
 ghost use Rattle.std.specs.Prelude.{IfSome, IfNone};
 ghost use Rattle.compact_form.specs.declared.parts.JwtParts.{JwtParts as TheParts};
 ghost use Rattle.compact_form.specs.JwtCalls.{IsJwt};

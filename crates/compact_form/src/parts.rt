@@ -1,3 +1,4 @@
+// The parts of a token in compact form, which own their texts.
 ghost use Rattle.std.specs.Prelude.{◌≡◌};
 ghost use Rattle.compact_form.specs.Views.{jwt_of};
 

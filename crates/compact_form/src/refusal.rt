@@ -1,3 +1,4 @@
+// The refusals of the commands, with their numbers and names. The trusted core cites them.
 ghost use Rattle.std.specs.Prelude.{◌≡◌};
 
 use crate::Condition;

@@ -1,3 +1,4 @@
+// Texts, numbered in the order in which they are first seen.
 ghost use Rattle.std.specs.Prelude.{◌≡◌, [], length, None, bytes_eq, IfOk, OnErr, OnOk};
 ghost use Rattle.std.specs.List.{IsDistinct};
 ghost use Rattle.digest_index.specs.Index.{interned, position_of, position_or_end, ticked};

@@ -1,3 +1,4 @@
+// The hasher of an index, with a seed that its maker gives.
 use std::hash::{BuildHasher, DefaultHasher, Hasher};
 
 /// Makes hashers that stand behind a seed. They are SipHash-1-3, so that which

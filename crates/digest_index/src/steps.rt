@@ -1,3 +1,4 @@
+// A count of the look-ups of an index.
 ghost use Rattle.std.specs.Prelude.{◌≡◌};
 ghost use Rattle.digest_index.specs.Index.{ticked};
 

@@ -1,3 +1,4 @@
+// Tests of numbered texts and their seeds.
 use crate::{DigestIndex, Steps};
 use std::alloc::Global;
 use std::test::Fail;

@@ -1,3 +1,4 @@
+// A place of a payload where a digest stands.
 use claim_tree::Path;
 use sd_outside::{ListOf, TextBox};
 

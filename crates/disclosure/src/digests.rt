@@ -1,3 +1,4 @@
+// The hash algorithms of digests, and the digests of texts (RFC 9901 section 4.2.3).
 ghost use Rattle.std.specs.Prelude.{◌≡◌, ◌≢◌, IfOk, Some, IfSome, IfNone};
 ghost use Rattle.claim_tree.specs.View.{tree_of};
 ghost use Rattle.disclosure.specs.Digest.{digest_of, hash_name, hash_of_text, hash_of_name as hash_of_name_by, payload_hash as payload_hash_by};

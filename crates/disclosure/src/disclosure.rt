@@ -1,3 +1,4 @@
+// Disclosures, made and read (RFC 9901 section 4.2).
 ghost use Rattle.std.specs.Prelude.{◌≡◌, ◌≤◌, length, take, IfOk, IfErr, IfSome, IfNone, Option, option_map};
 ghost use Rattle.sd_outside.specs.Limits.{json_depth_max};
 ghost use Rattle.b64url_text.specs.Base64url.{Decodes};

@@ -1,3 +1,4 @@
+// Why a text is no disclosure.
 use b64url_text::NotBase64;
 use claim_tree::ReadError;
 use sd_outside::NoMemory;

@@ -1,3 +1,4 @@
+// A signer for tests that fails where it is told to.
 ghost use Rattle.std.specs.Prelude.{◌≡◌, ◌<◌, ◌≤◌, ◌↔◌, length, IfOk, IsErrOf};
 ghost use Rattle.sd_outside.specs.Causes.{Rose};
 ghost use Rattle.hmac_sign.specs.Algs.{alg_text};

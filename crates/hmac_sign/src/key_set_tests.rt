@@ -1,3 +1,4 @@
+// Tests of key sets that are read from texts.
 use crate::{Alg, HsKey, KeySet, KeySetError};
 use claim_tree::read;
 use std::test::Fail;

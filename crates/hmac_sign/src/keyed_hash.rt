@@ -1,3 +1,4 @@
+// HMAC (RFC 2104) over the hashes of the SHA-2 family.
 ghost use Rattle.std.specs.Prelude.{◌≡◌, ◌↔◌, ◌≤◌, ◌++◌, length, take, IsTrue};
 ghost use Rattle.hmac_sign.specs.Algs.{block_length, hash_by};
 ghost use Rattle.hmac_sign.specs.CodeLengths.{code_length};

@@ -1,3 +1,4 @@
+// Why nothing is issued.
 use claim_tree::Path;
 use hmac_sign::SignError;
 use sd_outside::NoMemory;

@@ -1,3 +1,4 @@
+// Why a text has neither of the two JSON forms.
 ghost use Rattle.std.specs.Prelude.{◌≡◌};
 
 use claim_tree::ReadError;

@@ -1,3 +1,4 @@
+// The token that a text in a JSON form holds (RFC 9901 section 8).
 ghost use Rattle.std.specs.Prelude.{IfOk, IsErrOf};
 ghost use Rattle.compact_form.specs.declared.fault.JsonPlace.{JsonPlace as ThePlace};
 ghost use Rattle.json_form.specs.Json.{IsJson};

@@ -1,3 +1,4 @@
+// A token in whichever of the three forms it came.
 ghost use Rattle.std.specs.Prelude.{◌≡◌, IfOk, IsErrOf};
 ghost use Rattle.compact_form.specs.declared.fault.Fault.{Fault as TheFault};
 ghost use Rattle.json_form.specs.Token.{IsToken, IsTextRefused};

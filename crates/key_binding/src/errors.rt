@@ -1,3 +1,4 @@
+// Why no key binding token is made, and what one that is read lacks.
 ghost use Rattle.std.specs.Prelude.{◌≡◌};
 
 use compact_form::Condition;

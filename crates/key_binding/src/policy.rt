@@ -1,3 +1,4 @@
+// What a verifier asks of a key binding token (RFC 9901 section 7.3).
 ghost use Rattle.std.specs.Prelude.{◌≡◌};
 ghost use Rattle.key_binding.specs.Judged.{binding_rules};
 ghost use Rattle.key_binding.specs.JudgedSteps.{rules_seen};

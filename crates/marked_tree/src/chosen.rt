@@ -1,3 +1,4 @@
+// The marks of the places that were chosen.
 ghost use Rattle.std.specs.Prelude.{◌≡◌, ℕ, ◌||◌, eqb, [], length, OnOk, OnErr, IfOk};
 ghost use Rattle.std.specs.Ordering.{nat_cmp};
 ghost use Rattle.std.specs.BTreeSet.{insert_key};

@@ -1,3 +1,4 @@
+// Bytes that grow, and say so where there is no memory.
 ghost use Rattle.std.specs.Prelude.{◌≡◌, [], ◌∷◌, ◌++◌, OnOk, OnErr};
 
 use crate::NoMemory;

@@ -1,3 +1,4 @@
+// Where the files of a command come from.
 ghost use Rattle.std.specs.Prelude.{◌≡◌, ◌≢◌, ◌≤◌, List, ℕ, Option, Some, length, take, IfOk, IfSome, IsErrOf};
 ghost use Rattle.sd_outside.specs.Causes.{Rose};
 

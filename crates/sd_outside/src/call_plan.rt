@@ -1,3 +1,4 @@
+// Which call of a thing for tests is to fail.
 ghost use Rattle.std.specs.Prelude.{◌≡◌, ◌↔◌, OnOk, OnErr, IsTrue};
 ghost use Rattle.sd_outside.specs.Memory.{IsToFail, after_call, failing_at, no_calls};
 

@@ -1,3 +1,4 @@
+// What may go wrong outside: no memory, and calls that fail.
 ghost use Rattle.std.specs.Prelude.{◌≡◌};
 ghost use Rattle.sd_outside.specs.declared.errors.FetchError.TheVariants.{Memory};
 

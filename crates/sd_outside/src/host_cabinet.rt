@@ -1,3 +1,4 @@
+// The files of the host.
 ghost use Rattle.std.specs.Prelude.{◌≡◌, ◌≤◌, None, length, IfOk};
 
 use crate::{ByteBox, Cabinet, FetchError, TextBox};

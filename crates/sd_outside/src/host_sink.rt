@@ -1,3 +1,4 @@
+// An output of the host, such as its standard output.
 ghost use Rattle.std.specs.Prelude.{◌≡◌, None};
 
 use crate::{Failed, Sink};

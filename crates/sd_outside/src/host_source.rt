@@ -1,3 +1,4 @@
+// An input of the host, such as its standard input.
 ghost use Rattle.std.specs.Prelude.{◌≡◌, None};
 
 use crate::{Failed, Source};

@@ -1,3 +1,4 @@
+// A cabinet in memory, whose calls fail where they are told to.
 ghost use Rattle.std.specs.Prelude.{◌≡◌, ◌≢◌, ◌≤◌, ◌⊎◌, List, ℕ, Option, None, Some, [], length, take, OnOk, OnErr, IfOk, IfSome, IsErrOf, IsSomeAnd, MatchOption};
 ghost use Rattle.std.specs.Option.{option_copied};
 ghost use Rattle.sd_outside.specs.Causes.{Rose};

@@ -1,3 +1,4 @@
+// A sink in memory with a bound, whose calls fail where they are told to.
 ghost use Rattle.std.specs.Prelude.{◌≡◌, ◌+◌, ◌<◌, ◌≤◌, ◌⊎◌, Some, [], ◌++◌, length, take, OnOk, OnErr, IfOk};
 ghost use Rattle.std.specs.Io.KnownBytes.{Appends};
 ghost use Rattle.sd_outside.specs.Causes.{Rose, AppendsPrefix};

@@ -1,3 +1,4 @@
+// A source in memory that comes in pieces, whose calls fail where they are told to.
 ghost use Rattle.std.specs.Prelude.{◌≡◌, ◌+◌, ◌<◌, ◌≤◌, Some, length, take, drop, min, [], ◌++◌, OnOk, OnErr, IfOk};
 ghost use Rattle.sd_outside.specs.Causes.{Rose};
 ghost use Rattle.sd_outside.specs.Memory.{IsToFail, after_call, failing_at, no_calls, one_more};

@@ -1,3 +1,4 @@
+// Where the answer of a command goes.
 ghost use Rattle.std.specs.Prelude.{◌≤◌, List, ℕ, Option, OnOk, OnErr};
 ghost use Rattle.std.specs.Io.KnownBytes.{Appends};
 ghost use Rattle.sd_outside.specs.Causes.{Rose, AppendsPrefix};

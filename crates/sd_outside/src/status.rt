@@ -1,3 +1,4 @@
+// The statuses that a program ends with. The trusted core cites them.
 ghost use Rattle.std.specs.Prelude.{◌≡◌};
 ghost use Rattle.sd_outside.specs.Status.{status_number};
 

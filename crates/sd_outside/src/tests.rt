@@ -1,3 +1,4 @@
+// Tests of what lies outside, in memory and on the host.
 use crate::{
     ByteBox, Cabinet, Failed, FetchError, HostCabinet, HostSink, HostSource, MemCabinet, MemSink,
     MemSource, Sink, Source, TextBox, TextList,

@@ -1,3 +1,4 @@
+// Texts that are owned, and say so where there is no memory.
 ghost use Rattle.std.specs.Prelude.{◌≡◌, IfOk, string_bytes};
 
 use crate::NoMemory;

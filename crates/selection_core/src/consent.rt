@@ -1,3 +1,4 @@
+// The consent of a holder: a rule which places may be shown.
 ghost use Rattle.std.specs.Prelude.{◌≡◌};
 ghost use Rattle.selection_core.specs.Consent.{Allows};
 

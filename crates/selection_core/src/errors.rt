@@ -1,3 +1,4 @@
+// Why nothing is chosen, and why a place may not be shown.
 use sd_outside::NoMemory;
 
 /// Why nothing is chosen.
