@@ -6,7 +6,7 @@ use Rattle.json.specs.declared.token.Token.{Token as ReadToken}
 use Rattle.json.specs.declared.token.Token.TheVariants.{String, Bool as Flag, Null}
 use Rattle.json.specs.Json as json
 use Rattle.json.proofs.Grammar.{value_is}
-use Rattle.json.specs.Json.{Parse, parse_map, after_end_array, read_key, items, members, value}
+use Rattle.json.specs.Json.{Parse, parse_map, after_end_array, items, members, value}
 use Rattle.serde_json.specs.Data.{Num, Data, number, array, object, Items, item, Members}
 use Rattle.serde_json.specs.Find.{is_float}
 use Rattle.serde_json.specs.Read.{of_json, of_items, converted}

@@ -1,7 +1,6 @@
 // What is asked of a holder, whoever may have signed the token, and whoever
 // signs the key binding token.
 ghost use Rattle.std.specs.Prelude.{◌≡◌, map, option_map};
-ghost use Rattle.std.specs.Option.{option_copied};
 ghost use Rattle.hmac_sign.specs.Algs.{algs as known, alg_text};
 ghost use Rattle.holder_core.specs.Asked.{asked_by, asked_by_caller, binding_asked, caller_binding};
 ghost use Rattle.holder_core.specs.AskedSeen.{binding_seen};

@@ -4,7 +4,6 @@ use Rattle.std.specs.List.{list_any}
 use Rattle.std.specs.Option.{is_some, option_or}
 use Rattle.std.proofs.lemmas.Slice.Eq.{bytes_eq-Decides}
 use Rattle.claim_tree.specs.Tree.{Text, Tree, object, Members, no_members, member, names, member_named, text_of}
-use Rattle.jws_part.specs.Part.{Carries}
 use Rattle.jws_part.specs.Header.{text_tree, has_name, shares_name, has_crit, HeadersSay, ReadsHeader, IsHeader, IsHeaderCritical, IsNoText, SayNothing, shared_name, no_alg, odd_alg, odd_typ, odd_kid, odd_outer_kid, IsHeaderUnreadable, no_object, nothing_said}
 use Rattle.jws_part.specs.HeaderSteps.{unread_header}
 use Rattle.jws_part.specs.declared.header.Header.{Header}

@@ -1,7 +1,7 @@
 -- What is told of an order that someone else signs.
-use Rattle.std.proofs.Common.{◌≡◌, ℕ, List, inl, inr, refl, sym, subst}
+use Rattle.std.proofs.Common.{◌≡◌, ℕ, List, inl, inr, refl, subst}
 use Rattle.std.specs.Array.{IsFirstChunk}
-use Rattle.std.specs.Prelude.{Result, Ok, Err, IfErr}
+use Rattle.std.specs.Prelude.{Result, Err, IfErr}
 use Rattle.claim_tree.specs.declared.file_fault.FileFault.{FileFault}
 use Rattle.cli_parts.specs.Stops.{OnRefused, OnUnreadable}
 use Rattle.cli_parts.specs.Telling.{TellsFileFault}

@@ -1,5 +1,5 @@
 -- Sorted paths without those inside another: the last that does not come after a place is the only one that may lead to it.
-use Rattle.std.proofs.Common.{◌≡◌, ◌≢◌, ℕ, zero, suc, ◌-◌, ◌<◌, ◌≤◌, ◌⊎◌, inl, inr, List, [], ◌∷◌, length, get_or, take, bytes_eq, Bool, true, false, cond, ◌||◌, Ordering, Less, Equal, Greater, is_lt, is_le, All, AllPairs, refl, sym, ap, subst, ◌∙◌, arith}
+use Rattle.std.proofs.Common.{◌≡◌, ◌≢◌, ℕ, suc, ◌-◌, ◌<◌, ◌≤◌, ◌⊎◌, inl, inr, List, [], ◌∷◌, length, get_or, take, bytes_eq, Bool, true, false, cond, ◌||◌, Ordering, Less, Equal, Greater, is_lt, is_le, All, AllPairs, refl, sym, ap, subst, ◌∙◌, arith}
 use Rattle.std.specs.Cmp.{both_ways}
 use Rattle.std.specs.Cmp.Lexicographic.{pointwise}
 use Rattle.std.specs.List.{dedup, dedup_from, list_any}
@@ -14,7 +14,6 @@ use Rattle.std.proofs.lemmas.List.Folds.{Any-from_list_any, list_any_at}
 use Rattle.std.proofs.lemmas.List.Kept.{AllPairs-cons}
 use Rattle.std.proofs.lemmas.List.Sorted.{list_any-IsPermutation, sorted_far, ranks_by}
 use Rattle.claim_tree.specs.Path.{is_front}
-use Rattle.claim_tree.specs.Tree.{Text}
 use Rattle.claim_tree.proofs.Counting.{before_or_at}
 use Rattle.claim_tree.proofs.Lists.{bytes_same, bytes_refl, compare_lt}
 use Rattle.claim_tree.proofs.MapPlaces.{less_clash}

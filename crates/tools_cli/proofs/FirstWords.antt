@@ -1,5 +1,5 @@
 -- Whether the first of some words is a name.
-use Rattle.std.proofs.Common.{◌≡◌, Global, String, Bool, true, ℕ, ◌≤◌, List, [], ◌∷◌, length, map, get_or, string_bytes, refl, sym, ap, ◌∙◌, arith}
+use Rattle.std.proofs.Common.{◌≡◌, Global, String, Bool, ℕ, ◌≤◌, List, [], ◌∷◌, length, map, get_or, string_bytes, sym, ap, ◌∙◌, arith}
 use Rattle.std.specs.Prelude.{◌↔◌, IsTrue, bytes_eq}
 use Rattle.std.proofs.lemmas.Slice.Eq.{bytes_eq-Decides}
 

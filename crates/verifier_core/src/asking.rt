@@ -1,5 +1,5 @@
 // The verdict on a token file, where a caller checks the signatures.
-ghost use Rattle.std.specs.Prelude.{◌≡◌, ◌↔◌, ◌++◌, Some, codes, IsTrue, IfOk, IfErr, OnOk, IfSome, IfNone, IsErrOf, option_map};
+ghost use Rattle.std.specs.Prelude.{◌≡◌, ◌↔◌, ◌++◌, Some, codes, IsTrue, IfOk, OnOk, IfSome, IfNone, IsErrOf, option_map};
 ghost use Rattle.b64url_text.specs.NotBase64.{IsNotBase64};
 ghost use Rattle.claim_tree.specs.View.{tree_of};
 ghost use Rattle.compact_form.specs.Lowest.{IsLowest};

@@ -2,7 +2,7 @@
 use Rattle.std.proofs.Common.{◌≡◌, ◌≢◌, List, [], refl, sym, ap, subst, ◌∙◌, codes}
 use Rattle.sd_outside.specs.Limits.{file_max}
 use Rattle.claim_tree.specs.Tree as spec
-use Rattle.claim_tree.specs.Tree.{Text, Leaf, null, flag, whole, text, leaf, array, object, member_named}
+use Rattle.claim_tree.specs.Tree.{Text, null, flag, whole, text, leaf, array, object, member_named}
 use Rattle.claim_tree.specs.View.{tree_of}
 use Rattle.claim_tree.specs.FileForms.{Says, SaysOr, found}
 use Rattle.claim_tree.specs.FileLists.{IsListOf, IsPointer}

@@ -1,7 +1,6 @@
 use Rattle.std.proofs.Common.{rules}
-use Rattle.issuer_core.specs.Order.{order_of}
 use Rattle.sdjwt_c.specs.Signing.{no_seed}
-use Rattle.sdjwt_c.proofs.Signings.{is_asked, has_no_order, refuses_to_sign}
+use Rattle.sdjwt_c.proofs.Signings.{has_no_order}
 use Rattle.sdjwt_c.proofs.signing.unsigned.Goals as goal
 
 pub returns-in_ok-short_seed_line-in-None-clause-unreadable : goal.returns-in_ok-short_seed_line-in-None-clause-unreadable

@@ -6,7 +6,7 @@ use Rattle.cli_parts.proofs.Finished.{reply_more}
 use Rattle.cli_parts.specs.Replies.{Reply}
 use Rattle.wallet_core.specs.WalletRun.{WalletAnswers}
 use Rattle.sdjwt_c.specs.Handed.{HandsBy}
-use Rattle.sdjwt_c.specs.Tokens.{AreLengths, pieces}
+use Rattle.sdjwt_c.specs.Tokens.{AreLengths}
 use Rattle.sdjwt_c.proofs.Handing.{handed_reply}
 use Rattle.sdjwt_c.proofs.tools.sdjwt_wallet.Goals as goal
 

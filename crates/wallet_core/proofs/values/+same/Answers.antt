@@ -1,13 +1,12 @@
-use Rattle.std.proofs.Common.{◌≡◌, Some, sym, ap, ap₂, subst, ◌∙◌, arith}
-use Rattle.claim_tree.specs.Tree.{Text, Tree, Elements, Members, array, object, elements_len, members_len, element_at}
+use Rattle.std.proofs.Common.{◌≡◌, Some, sym, ap, ap₂, ◌∙◌, arith}
+use Rattle.claim_tree.specs.Tree.{Text, Tree, Elements, Members, element_at}
 use Rattle.claim_tree.specs.TreeCalls.{member_at}
 use Rattle.claim_tree.specs.View.{tree_of}
 use Rattle.claim_tree.proofs.Lists.{pair_same}
-use Rattle.marked_tree.specs.MarkedCalls.{marked_elements_len, marked_members_len}
-use Rattle.marked_tree.specs.Marked.{MarkedElements, MarkedMembers, strip, strip_elements, strip_members}
-use Rattle.marked_tree.specs.View.{marked_of, marked_elements_of, marked_members_of}
+use Rattle.marked_tree.specs.Marked.{strip}
+use Rattle.marked_tree.specs.View.{marked_of}
 use Rattle.marked_tree.proofs.MarkedViews.{Element, Entry}
-use Rattle.marked_tree.proofs.StrippedSame.{turn_same, turn_same_members, all_same, all_same_members, differs_there, differs_there_members, lists_differ, objects_differ, elements_stripped_len, members_stripped_len}
+use Rattle.marked_tree.proofs.StrippedSame.{turn_same, turn_same_members, differs_there, differs_there_members}
 use Rattle.wallet_core.proofs.Sames.{is_not, is_so, elements_same, members_same, named_same, named_other}
 use Rattle.wallet_core.proofs.values.+same.Goals as goal
 use Rattle.wallet_core.proofs.values.+same.Goals.{have_same-then-ne-via-then-ne, have_same-then-ne-via-else-ne+then-not-is_same}
