@@ -1,7 +1,7 @@
 #!/bin/sh
 # Tests the C library: builds it, and runs c/tests/calls.c over the vectors of vectors/, on one thread and on eight, under
 # AddressSanitizer with UndefinedBehaviorSanitizer, and under valgrind; then with each request for memory refused in turn;
-# then the programs of docs/C.md that check signatures by OpenSSL, over the presentation of RFC 9901, and make them.
+# then the programs of c/examples that check signatures by OpenSSL, over the presentation of RFC 9901, and make them.
 #
 #   sh c/check.sh               a tool that is missing is told and skipped
 #   sh c/check.sh --install     what is missing is installed from Debian's packages first
@@ -63,15 +63,12 @@ fi
 echo 'With each request for memory refused in turn:'
 "$made/memory" "$here/../examples/walk"
 
-# The programs of docs/C.md over OpenSSL: the second of the page verifies, and the third issues and presents.
-block() { sed -n '/^```c$/,/^```$/p' "$here/../docs/C.md" | awk -v at="$1" '/^```c$/ { n++ } !/^```/ && n == at'; }
-block 2 >"$made/public.c"
-block 3 >"$made/signed.c"
+# The programs over OpenSSL, of which docs/C.md shows the calls: one verifies, and the other issues and presents.
 if echo '#include <openssl/evp.h>' | "$CC" -E - >/dev/null 2>&1; then
     # shellcheck disable=SC2086 # words
     for how in '-fsanitize=address,undefined -fno-sanitize-recover=all' ''; do
         for name in public signed; do
-            "$CC" $strict $how -I"$here/out/include" "$made/$name.c" "$lib/libsdjwt.a" -lcrypto -o "$made/$name"
+            "$CC" $strict $how -I"$here/out/include" "$here/examples/$name.c" "$lib/libsdjwt.a" -lcrypto -o "$made/$name"
         done
         python3 "$here/tests/letters.py" ${how:+--step 101} "$made/public" "$here/../vectors/rfc9901"
         if command -v openssl >/dev/null; then

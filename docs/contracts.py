@@ -7,9 +7,9 @@ trusted core, which docs/core.py finds.
 
 Of a crate it has what the first lines of its library say, and the crates on which it stands. Of a public function, of a
 trait, and of a type with functions it has the first sentence of its comment, and the definitions that its clauses cite
-by name, beside limits and views of types; of a law the whole comment. Of a module of specs/ it has the first sentence,
-and those of its definitions that some public clause cites. Modules are left out that say in their first line that they
-are for private functions, models, conversions or the prover.
+by name, beside limits and views of types; of a type of errors its cases; of a law the whole comment. Of a module of
+specs/ it has the first sentence, and those of its definitions that some public clause cites. Modules are left out that
+say in their first line that they are for private functions, models, conversions or the prover.
 """
 import re
 import sys
@@ -41,7 +41,8 @@ and the module `M` of its definitions in `specs/M.antt`.
 
 Behind a call stand the definitions that its clauses cite: those of *Ok* say what is so where it succeeds, those of
 *Err* what is so where it refuses. Every call is safe and returns on each input that meets what it requires; an error
-for want of memory has no cause in a clause. Of a type its calls are named, and what they cite together.
+for want of memory has no cause in a clause. Of a type its calls are named, and what they cite together. Errors stand
+with their cases, which their comments in the code explain.
 
 """
 
@@ -155,6 +156,15 @@ class Crate:
                 if not indent and (name in self.exported or module in self.public or "no_mangle" in comment):
                     yield name, comment, None, self.cited(file, head)
 
+    def errors(self):
+        """Each public type of errors, with its comment and its cases."""
+        for module, file in self.files():
+            for comment, kind, name in TYPE.findall(file.text):
+                is_public = name in self.exported or module in self.public
+                if is_public and re.search(r"(Error|.Fault|Short|^NoMemory)$", name):
+                    body = re.search(rf"^pub {kind} {name}\b(.*?)(?:^\}}|;$)", file.text, re.M | re.S)[1]
+                    yield name, comment, re.findall(r"^    (\w+)(?=\(| \{|,$)", body, re.M) if kind == "enum" else []
+
     def cited(self, file, head):
         """The definitions of this repository that clauses cite: those of Ok, those of Err, and the others."""
         good, bad, other = set(), set(), set()
@@ -234,6 +244,11 @@ def page():
         yield filled(crate.purpose() + on) + "\n"
         if calls[crate.name]:
             yield "\n".join(entry(*row) for row in calls[crate.name]) + "\n"
+        errors = [] if crate.name in TESTS else list(crate.errors())
+        if errors:
+            texts = [f"`{name}`: {sentence(comment)}" for name, comment, _ in errors]
+            cases = [f" Cases: {words(its)}." if its else "" for _, _, its in errors]
+            yield "**Errors**\n\n" + "\n".join(map(listed, map("".join, zip(texts, cases)))) + "\n"
         laws = [listed(f"`{name}`: {text}") for name, text in crate.laws()]
         if laws:
             yield "**Laws**\n\n" + "\n".join(laws) + "\n"

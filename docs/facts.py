@@ -3,13 +3,16 @@
 
     python3 docs/facts.py        status 1 where something differs
 
-The numbers and names of conditions and refusals are those of `Condition` and `Refusal` of compact_form, wherever a page
-says them; docs/SPECIFICATION.md and docs/REFUSALS.md have each. The limits are those of `Limits` of sd_outside, the
-words of commands those of `Command`, `Forms` and the tools, and the members of files those of their tables. A name of
-code in a page for whoever reads the code (OF_CODE) stands in the code, and so does the code that LIBRARY.md shows. Each
-link leads to a file that is there, and to a heading of it, and from docs/ to what a release has too.
+The numbers and names of conditions and refusals are those of one table, `Condition` and `Refusal` of compact_form,
+wherever a document, a script, a test or a vector says them; docs/SPECIFICATION.md, docs/REFUSALS.md, refusals.json of
+the Python package and tests/reference have each. The limits are those of `Limits` of sd_outside, the words of commands
+those of `Command`, `Forms` and the tools, and the members of files those of their tables. A name of code in a page for
+whoever reads the code (OF_CODE) stands in the code, and so does the code that LIBRARY.md and C.md show. Each link leads
+to a file that is there, and to a heading of it, and from docs/ to what a release has too.
 """
+import json
 import re
+import runpy
 import sys
 from pathlib import Path
 
@@ -41,6 +44,12 @@ TABLES = [
 ]
 # What a release has beside docs/.
 RELEASED = ("../CHANGELOG.md", "../c/sdjwt.h", "../python/README.md", "../vectors/README.md")
+RELEASED += ("../c/examples/public.c", "../c/examples/signed.c")
+# Where numbers of refusals are said besides pages.
+FOLDERS = ("c", "completions", "crates/sd_vectors/data", "docs", "examples", "python", "tests", "vectors")
+SUFFIXES = (".bash", ".c", ".h", ".json", ".md", ".py", ".rows", ".sh", ".txt", ".1", "")
+# The ranges of the sections of REFUSALS.md that manual pages say.
+RANGES = [("docs/sdjwt.1", r"\((\d+) to (\d+)\)", 3), ("docs/sdjwt_tools.1", r"(8\d) to (\d+)", 1)]
 RUNS = [("audit_core", "AuditRun"), ("wallet_core", "WalletRun"), ("feed_core", "FeedRun")]
 
 
@@ -77,17 +86,41 @@ def check_numbers():
     headings = re.findall(r"^### refused (\d+) (\w+)$", text_of("docs/REFUSALS.md"), re.M)
     if [(int(no), name) for no, name in headings] != sorted(names.items()):
         yield "the headings of REFUSALS.md are not the numbers and names of specs/"
+    lines = [line.split() for line in json.loads(text_of("python/src/sdjwt/refusals.json")) if line[:8] == "refused "]
+    if [(int(no), name) for _, no, name in lines] != sorted(names.items()):
+        yield "the lines of refusals.json are not the numbers and names of specs/"
+    if runpy.run_path(str(TOP / "tests/reference/outcome.py"))["NAMES"] != names:
+        yield "tests/reference/outcome.py has other numbers and names than specs/"
+    yield from check_ranges()
     for page in PAGES:
         text = page.read_text(encoding="utf-8")
-        for no, name in re.findall(r"\brefused (\d+) ([a-z]\w+)", text):
-            if names.get(int(no)) != name:
-                yield f"{page.relative_to(TOP)} says {no} {name}"
-        for no, name in re.findall(r"\b(\d+) `(\w+)`", text):
-            if name in number_of and number_of[name] != int(no):
-                yield f"{page.relative_to(TOP)} says {no} {name}"
         for count in re.findall(r"(?<!first )\b(\d+) (?:stated )?conditions\b", text):
             if page.name != "CHANGELOG.md" and int(count) != specs("compact_form", "Condition").count("codes \""):
                 yield f"{page.relative_to(TOP)} says that there are {count} conditions"
+    others = [path for folder in FOLDERS for path in sorted((TOP / folder).glob("**/*")) if path.suffix in SUFFIXES]
+    for path in dict.fromkeys(PAGES + [path for path in others if path.is_file() and "out" not in path.parts]):
+        text = path.read_text(encoding="utf-8", errors="replace")
+        for no, name in re.findall(r"\brefused (\d+) ([a-z]\w+)", text):
+            if names.get(int(no)) != name and (name in number_of or path in PAGES):
+                yield f"{path.relative_to(TOP)} says {no} {name}"
+        for no, name in re.findall(r"\b(\d+) (`\w+`|[a-z]+[A-Z]\w*)", text):
+            if number_of.get(name.strip("`"), int(no)) != int(no):
+                yield f"{path.relative_to(TOP)} says {no} {name}"
+
+
+def check_ranges():
+    """Whether the sections of REFUSALS.md, and the ranges of manual pages, are those of the entries in them."""
+    known = set()
+    for section in re.split(r"^## ", text_of("docs/REFUSALS.md"), flags=re.M)[1:]:
+        inside = [int(no) for no in re.findall(r"^### refused (\d+) ", section, re.M)]
+        said = [int(no) for no in re.findall(r"\d+", section.split("\n")[0].split(": ")[-1])] if inside else []
+        known.add((said[0], said[-1]) if said else ())
+        if inside and [said[0], said[-1]] != [inside[0], inside[-1]]:
+            yield f"a heading of REFUSALS.md has another range than its entries: {section.splitlines()[0]}"
+    for file, pattern, count in RANGES:
+        found = [(int(first), int(last)) for first, last in re.findall(pattern, text_of(file))]
+        if len(found) != count or not known.issuperset(found):
+            yield f"{file} has other ranges of numbers than REFUSALS.md"
 
 
 def check_limits():
@@ -159,17 +192,24 @@ def check_names():
 
 
 def check_code():
-    """Whether the code that LIBRARY.md shows stands in the sources, but for what it says of a service of yours."""
+    """Whether the code that LIBRARY.md and C.md show stands in the sources, but for what is said of a service of yours,
+    and the first program in C. A line `..` stands for what is left out."""
     def plain(text):
         unmarked = re.sub(r"^\s*(///|//|--) ", "", text, flags=re.M)
         return re.sub(r"\s+", "", unmarked).replace(",)", ")")
 
+    def pieces(page, language):
+        for block in re.findall(rf"^ *```{language}\n(.*?)^ *```$", text_of(page), re.M | re.S):
+            yield from re.split(r"\n\n(?=  -- )|^ *\.\.\n", block, flags=re.M)
+
     files = [path for path in (TOP / "crates").glob("*/*/**/*.*t") if path.suffix in (".rt", ".antt")]
-    sources = [plain(path.read_text(encoding="utf-8")) for path in files]
-    for block in re.findall(r"^ *```(?:rust)?\n(.*?)^ *```$", text_of("docs/LIBRARY.md"), re.M | re.S):
-        for piece in re.split(r"\n\n(?=  -- )", block):
-            if "may_enter" not in piece and not any(plain(piece) in source for source in sources):
-                yield f"LIBRARY.md shows code that stands nowhere: {piece.strip().splitlines()[0]}"
+    of_c = [plain(path.read_text(encoding="utf-8")) for path in (TOP / "c/examples").glob("*.c")]
+    shown = [("docs/LIBRARY.md", "(?:rust)?", [plain(path.read_text(encoding="utf-8")) for path in files])]
+    for page, language, sources in [*shown, ("docs/C.md", "c", of_c)]:
+        for piece in pieces(page, language):
+            is_own = "may_enter" in piece or piece.startswith("#include")
+            if not is_own and not any(plain(piece) in source for source in sources):
+                yield f"{page} shows code that stands nowhere: {piece.strip().splitlines()[0]}"
 
 
 def anchors(page):

@@ -60,9 +60,11 @@ in_cases() {
 }
 
 on_page() {
+    # shellcheck disable=SC2016 # the marks of a text
     sed -n '
         s/^### refused \([0-9]* [A-Za-z]*\)$/\1/p
         s/^### unreadable \(.*\)$/6 \1/p
+        s/^| `\([a-zA-Z_ ]*\)` |.*|.*|.*|$/6 \1/p
         s/^### usage$/2 usage/p
         s/^### unread$/3 unread/p
         s/^### unwritten$/4 unwritten/p

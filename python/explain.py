@@ -35,12 +35,17 @@ import _detail  # noqa: E402
 
 
 def sections(page):
-    """The text of each entry, by its heading, as `refused 10 badSignature`, `unreadable notJson` or `usage`."""
+    """The text of each entry, by its heading, as `refused 10 badSignature`, `unreadable notJson` or `usage`. An entry of few
+    words is a row of a table, of the reasons why a file is unreadable, and becomes a text of the same form."""
     found = {}
     for section in re.split(r"^(?=##)", page, flags=re.M):
         heading, _, body = section.partition("\n")
         if heading.startswith("### "):
             found[heading[len("### "):]] = body.strip()
+        rows = body.partition("\n| Reason |" + "".join(f" {name} |" for name in PARTS) + "\n")[2]
+        for reason, *cells in re.findall(r"^\| `([^`|]+)` \| ([^|]+) \| ([^|]+) \| ([^|]+) \|$", rows, re.M):
+            texts = [f"- **{name}:** {cell[0].upper()}{cell[1:]}." for name, cell in zip(PARTS, cells)]
+            found["unreadable " + reason] = "\n".join(texts)
     return found
 
 

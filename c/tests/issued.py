@@ -1,5 +1,5 @@
 #!/usr/bin/env python3
-"""Runs the program of docs/C.md that issues with a key of OpenSSL: issued.py PROGRAM
+"""Runs c/examples/signed.c, which issues with a key of OpenSSL: issued.py PROGRAM
 
 Its token has the header and the claims of its order, and a signature that the program openssl finds good under the public
 key, and under no other; each of its tokens has another salt. With a key of another kind, or with none, it issues nothing.
@@ -74,7 +74,7 @@ def main():
             assert ran(program, made_key(folder, str(number), kind)[0].read_bytes()) == (2, "", ""), kind
         for given in (b"", b"no key", public.read_bytes()):
             assert ran(program, given) == (2, "", ""), given
-    print("20 tokens of the program of docs/C.md are signed, and of other keys none")
+    print("20 tokens of c/examples/signed.c are signed, and of other keys none")
 
 
 if __name__ == "__main__":

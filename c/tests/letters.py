@@ -1,5 +1,5 @@
 #!/usr/bin/env python3
-"""Runs the program of docs/C.md that checks signatures by OpenSSL: letters.py [--step N] PROGRAM FOLDER
+"""Runs c/examples/public.c, which checks signatures by OpenSSL: letters.py [--step N] PROGRAM FOLDER
 
 FOLDER has the presentation of RFC 9901 with its claims. As it stands it is accepted, with these claims; with a letter changed
 it is refused. With --step only each Nth letter is changed.

@@ -1,5 +1,5 @@
 #!/usr/bin/env python3
-"""Runs the program of docs/C.md that presents with keys of OpenSSL, and the calls for it: presented.py PROGRAM LIBRARY
+"""Runs c/examples/signed.c, which presents with keys of OpenSSL, and the calls for it: presented.py PROGRAM LIBRARY
 
 What the program presents has the seat, a key binding token for it, and two signatures that the program openssl finds good, each
 under its key and no other. The library judges it so, by the checks of openssl, and so it does what is presented by ES384, EdDSA
@@ -192,7 +192,7 @@ def main():
         by_program(program, library, Path(name))
         for alg in KINDS:
             by_calls(library, Path(name), alg)
-    print(f"the program of docs/C.md presents, and so do the calls by {', '.join(KINDS)}")
+    print(f"c/examples/signed.c presents, and so do the calls by {', '.join(KINDS)}")
 
 
 if __name__ == "__main__":
