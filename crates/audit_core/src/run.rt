@@ -6,7 +6,7 @@ ghost use Rattle.claim_tree.specs.Tree.{depth};
 ghost use Rattle.claim_tree.specs.View.{tree_of};
 ghost use Rattle.cli_parts.specs.Outside.{outside};
 ghost use Rattle.cli_parts.specs.Runs.{MissesWord, RunKeeps};
-ghost use Rattle.cli_parts.specs.Stops.{IsReply, OnUnread};
+ghost use Rattle.cli_parts.specs.Stops.{IsReply, OnUnread, NotUnread};
 ghost use Rattle.issuer_core.specs.OrderFile.{IsOrderFile};
 ghost use Rattle.audit_core.specs.AuditRun.{AuditAnswers, AuditEnds, AuditsFiles, IsAudit};
 
@@ -24,7 +24,7 @@ fn audit_for(alloc: Global, asked: IssueFile, token_file: &[u8]) -> Result<Strin
     requires depth { depth (tree_of asked.order.payload) ≤ json_depth_max }
     ensures replies { (order_file : List ℕ) → IsOrderFile order_file asked
         → IsReply (AuditAnswers order_file token_file.now) result }
-    ensures read { IfErr result (λ stop. OnUnread stop (λ _. ⊥)) }
+    ensures read { IfErr result NotUnread }
 {
     let IssueFile { order, key } = asked;
     match audit_owned(
@@ -45,7 +45,7 @@ fn audit_for(alloc: Global, asked: IssueFile, token_file: &[u8]) -> Result<Strin
 /// token is what the order asks for, signed with its key.
 pub fn audit_files(alloc: Global, order_file: &[u8], token_file: &[u8]) -> Result<String, Stop>
     ensures replies { IsReply (AuditAnswers order_file.now token_file.now) result }
-    ensures read { IfErr result (λ stop. OnUnread stop (λ _. ⊥)) }
+    ensures read { IfErr result NotUnread }
 {
     let asked = readable(alloc, read_order(alloc, order_file))?;
     audit_for(alloc, asked, token_file)

@@ -25,6 +25,16 @@ OnUnreadable (Unread word) P = Unit {0}
 OnUnreadable (Unreadable text) P = P (string_bytes text)
 OnUnreadable (Refused text) P = Unit {0}
 
+-- what is no stop of this kind
+abbrev pub NotRefused : Stop → Type 0
+NotRefused = λ stop. OnRefused stop (λ _. ⊥)
+
+abbrev pub NotUnread : Stop → Type 0
+NotUnread = λ stop. OnUnread stop (λ _. ⊥)
+
+abbrev pub NotUnreadable : Stop → Type 0
+NotUnreadable = λ stop. OnUnreadable stop (λ _. ⊥)
+
 -- what was answered is such a reply; a file that was not read and want of memory are none
 abbrev pub IsReply : (Reply → Type 0) → Result (String Global) Stop → Type 0
 IsReply Is (Ok text) = Is (gives (string_bytes text))

@@ -1,7 +1,7 @@
 // The files of a program.
 ghost use Rattle.std.specs.Prelude.{◌≡◌, ◌≤◌, ℕ, List, Some, take, IfOk, IfErr, IfSome};
 ghost use Rattle.sd_outside.specs.Causes.{Rose};
-ghost use Rattle.cli_parts.specs.Stops.{OnRefused, OnUnread, OnUnreadable};
+ghost use Rattle.cli_parts.specs.Stops.{OnUnread, NotRefused, NotUnreadable};
 
 use crate::Stop;
 use compact_form::FILE_MAX;
@@ -21,8 +21,8 @@ pub fn fetch_file<C: Cabinet>(
 ) -> Result<ByteBox, Stop>
     ensures content { IfOk result
         (λ file. IfSome (C.holds cab.old name.now) (λ content. file ≡ take most content)) }
-    ensures refuses { IfErr result (λ stop. OnRefused stop (λ _. ⊥)) }
-    ensures unreadable { IfErr result (λ stop. OnUnreadable stop (λ _. ⊥)) }
+    ensures refuses { IfErr result NotRefused }
+    ensures unreadable { IfErr result NotUnreadable }
     ensures unread { IfErr result (λ stop. OnUnread stop (λ k. k ≡ word)) }
     ensures missed { IfErr result (λ stop. OnUnread stop (λ _. C.missed cab.new ≡ Some name.now)) }
     ensures rose { IfErr result

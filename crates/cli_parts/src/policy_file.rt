@@ -1,7 +1,7 @@
 // The policy of a file.
 ghost use Rattle.std.specs.Prelude.{IfOk, IfErr};
 ghost use Rattle.verifier_core.specs.PolicyFile.{IsPolicyFileRefused, IsPolicyFile};
-ghost use Rattle.cli_parts.specs.Stops.{OnRefused, OnUnread, OnUnreadable};
+ghost use Rattle.cli_parts.specs.Stops.{OnUnreadable, NotRefused, NotUnread};
 ghost use Rattle.cli_parts.specs.Telling.{TellsFileFault};
 
 use crate::{Stop, readable};
@@ -13,8 +13,8 @@ pub fn policy_of(alloc: Global, file: &[u8]) -> Result<Policy, Stop>
     ensures policy { IfOk result (IsPolicyFile file.now) }
     ensures unreadable { IfErr result
         (λ stop. OnUnreadable stop (TellsFileFault (IsPolicyFileRefused file.now))) }
-    ensures fit { IfErr result (λ stop. OnRefused stop (λ _. ⊥)) }
-    ensures read { IfErr result (λ stop. OnUnread stop (λ _. ⊥)) }
+    ensures fit { IfErr result NotRefused }
+    ensures read { IfErr result NotUnread }
 {
     readable(alloc, read_policy(alloc, file))
 }

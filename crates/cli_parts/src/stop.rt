@@ -2,7 +2,7 @@
 ghost use Rattle.std.specs.Prelude.{◌≡◌, ◌≢◌, Ok, Err, IfOk, IfErr};
 ghost use Rattle.claim_tree.specs.declared.file_fault.FileFault.{FileFault};
 ghost use Rattle.cli_parts.specs.Lines.{refusal, unreadable_line as line_of};
-ghost use Rattle.cli_parts.specs.Stops.{OnRefused, OnUnread, OnUnreadable};
+ghost use Rattle.cli_parts.specs.Stops.{OnRefused, OnUnreadable, NotRefused, NotUnread, NotUnreadable};
 ghost use Rattle.cli_parts.specs.Telling.{TellsFileFault};
 ghost use Rattle.cli_parts.specs.declared.stop.Stop.TheVariants.{Memory};
 
@@ -36,8 +36,8 @@ impl From<NoMemory> for Stop {
 /// A condition fails: its line, where there is memory for it.
 pub fn refused(alloc: Global, fault: &Fault) -> Stop
     ensures line { OnRefused result (λ text. text ≡ refusal fault.now) }
-    ensures read { OnUnread result (λ _. ⊥) }
-    ensures readable { OnUnreadable result (λ _. ⊥) }
+    ensures read { NotUnread result }
+    ensures readable { NotUnreadable result }
 {
     match refusal_line(alloc, fault) {
         Ok(text) => Stop::Refused(text),
@@ -49,8 +49,8 @@ pub fn refused(alloc: Global, fault: &Fault) -> Stop
 fn unreadable(alloc: Global, fault: FileFault) -> Stop
     ensures cause { OnUnreadable result (λ _. fault ≢ FileFault.Memory) }
     ensures line { OnUnreadable result (λ text. text ≡ line_of 1 fault) }
-    ensures fit { OnRefused result (λ _. ⊥) }
-    ensures read { OnUnread result (λ _. ⊥) }
+    ensures fit { NotRefused result }
+    ensures read { NotUnread result }
 {
     if let FileFault::Memory = fault {
         return Stop::Memory;
@@ -66,8 +66,8 @@ pub fn readable<T>(alloc: Global, said: Result<T, FileFault>) -> Result<T, Stop>
     ensures said { IfOk result (λ value. said ≡ Ok value) }
     ensures unreadable { IfErr result
         (λ stop. OnUnreadable stop (TellsFileFault (λ fault. said ≡ Err fault))) }
-    ensures fit { IfErr result (λ stop. OnRefused stop (λ _. ⊥)) }
-    ensures read { IfErr result (λ stop. OnUnread stop (λ _. ⊥)) }
+    ensures fit { IfErr result NotRefused }
+    ensures read { IfErr result NotUnread }
 {
     match said {
         Ok(value) => Ok(value),

@@ -8,12 +8,24 @@ use std::test::Fail;
 
 // A cabinet that records what it is asked: each name, with the most bytes.
 #[derive(Drop)]
-struct Recorded {
+pub(crate) struct Recorded {
     files: MemCabinet,
-    asked: String,
+    pub(crate) asked: String,
 }
 
 impl Recorded {
+    // With the files of the tests, and asked nothing.
+    pub(crate) fn with_files(alloc: Global) -> Result<Recorded, NoMemory> {
+        let mut files = MemCabinet::new(alloc);
+        for (name, text) in FILES {
+            files.add(name, text.as_bytes())?;
+        }
+        Ok(Recorded {
+            files,
+            asked: String::new(alloc),
+        })
+    }
+
     fn note(&mut self, alloc: Global, name: &str, most: usize) -> Result<(), NoMemory>
         ensures { self.new.files ≡ self.old.files }
     {
@@ -40,7 +52,7 @@ impl Cabinet for Recorded {
 
 // A sink that counts its pieces.
 #[derive(Drop)]
-struct Pieces(u64);
+pub(crate) struct Pieces(pub(crate) u64);
 
 impl Sink for Pieces {
     ghost use Rattle.std.specs.Prelude.{None};
@@ -84,14 +96,7 @@ pub(crate) fn words_of(alloc: Global, words: &str) -> Result<Vec<String>, Fail> 
 // What a run of these words over the files leaves: its status, how often it put
 // a piece on `out` and on `err`, and what it asked for.
 fn left_by(alloc: Global, words: &str) -> Result<String, Fail> {
-    let mut files = MemCabinet::new(alloc);
-    for (name, text) in FILES {
-        files.add(name, text.as_bytes())?;
-    }
-    let mut cabinet = Recorded {
-        files,
-        asked: String::new(alloc),
-    };
+    let mut cabinet = Recorded::with_files(alloc)?;
     let (mut out, mut err) = (Pieces(0), Pieces(0));
     let words = words_of(alloc, words)?;
     let status = run(alloc, words.as_slice(), &mut cabinet, 0, &mut out, &mut err).number();

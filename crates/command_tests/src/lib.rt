@@ -1,5 +1,5 @@
-//! Tests of the top call of the program `sdjwt`, of what no row of a table shows, and of the runner
-//! of those rows. They stand apart from `library_tests` so that those need not wait for these.
+//! Tests of the top calls of the programs, of what no row of a table shows, and of the runner of
+//! those rows. They stand apart from `library_tests` so that those need not wait for these.
 #![tactic(auto)]
 
 #[cfg(test)]
@@ -8,3 +8,5 @@ mod failing_tests;
 mod fetch_tests;
 #[cfg(test)]
 mod row_tests;
+#[cfg(test)]
+mod tool_tests;

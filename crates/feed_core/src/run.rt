@@ -3,7 +3,7 @@ ghost use Rattle.std.specs.Prelude.{◌≡◌, ◌≤◌, ◌^◌, ℕ, List, So
 ghost use Rattle.sd_outside.specs.Causes.{Rose};
 ghost use Rattle.cli_parts.specs.Outside.{outside};
 ghost use Rattle.cli_parts.specs.Runs.{IsFetched};
-ghost use Rattle.cli_parts.specs.Stops.{OnRefused, OnUnread, OnUnreadable};
+ghost use Rattle.cli_parts.specs.Stops.{OnUnread, OnUnreadable, NotRefused};
 ghost use Rattle.cli_parts.specs.Telling.{TellsFileFault};
 ghost use Rattle.verifier_core.specs.PolicyFile.{IsPolicyFile, IsPolicyFileRefused};
 ghost use Rattle.feed_core.specs.FeedSource.{input};
@@ -26,7 +26,7 @@ fn fetch_policy<C: Cabinet>(alloc: Global, cab: &mut C, name: &str) -> Result<Po
         (λ stop. OnUnreadable stop
         (λ text. (file : List ℕ) × IsFetched (C.holds cab.old) name.now file
         × TellsFileFault (IsPolicyFileRefused file) text)) }
-    ensures fit { IfErr result (λ stop. OnRefused stop (λ _. ⊥)) }
+    ensures fit { IfErr result NotRefused }
     ensures word { IfErr result (λ stop. OnUnread stop (λ word. word ≡ 0)) }
     ensures missed { IfErr result (λ stop. OnUnread stop (λ _. C.missed cab.new ≡ Some name.now)) }
     ensures rose { IfErr result

@@ -17,7 +17,7 @@ use Rattle.sdjwt_c.specs.Results.{IsHanded}
 
 module _ (Misused : Type 0) (kept : Misused → ⊥) (Is : Reply → Type 0) (before after : List ℕ) (len number : ℕ) (told : Status) (number_is : number ≡ status_number told) where
   by_status : (s : Status) → told ≡ s → Hands Misused Is before after len s → HandsBy Misused Is before after len number
-  by_status s e hands = record { status = s; number_is = number_is ∙ ap status_number e; hands = hands }
+  by_status s e hands = record { status = s; number_is = number_is ∙ ap status_number e; hands = hands; misuse = λ misused. absurd (kept misused) }
 
   unwritten : (reply : Reply) → Is reply → told ≡ Unwritten → IsTooLong (reply_text reply) before after len → HandsBy Misused Is before after len number
   unwritten reply is e long = by_status Unwritten e (record { reply = reply; is = is; too_long = long })
@@ -40,7 +40,7 @@ module _ (Misused : Type 0) (kept : Misused → ⊥) (Is : Reply → Type 0) (be
   handed_reply (Err (Refused text)) reply unread is = refused (string_bytes text) reply is
   handed_reply (Err (Unreadable text)) reply unread is = not_read (string_bytes text) reply is
   handed_reply (Err (Unread word)) reply unread is = absurd unread
-  handed_reply (Err Memory) reply unread is = by_status status.Memory is.0 (record { kept = kept; left = is.1 })
+  handed_reply (Err Memory) reply unread is = by_status status.Memory is.0 is.1
 
   pub handed : (answer : Result (String Global) Stop) → IfOk answer (λ text. Is (gives (string_bytes text))) → IfErr answer (λ stop. OnRefused stop (λ text. Is (refuses text)))
       → IfErr answer (λ stop. OnUnreadable stop (λ text. Is (unreadable text))) → IfErr answer (λ stop. OnUnread stop (λ _. ⊥)) → IsHanded answer before after len told → HandsBy Misused Is before after len number

@@ -140,8 +140,8 @@ pub handed_step : (Misused : Type 0) → (Misused → ⊥) → (Is : Step → Ty
     → HandsStepBy Misused Is before after len number
 handed_step Misused kept Is before after len number (Ok (Told.Presented text)) is h =
     replied (handed_reply Misused kept (λ reply. Is (replies reply)) before after len number h.0 h.1 (Ok text) is tt h.2)
-handed_step Misused kept Is before after len number (Ok (Told.Asks text)) is h = asked (string_bytes text) is h
-handed_step Misused kept Is before after len number (Ok (Told.ToSign text)) is h = signs (string_bytes text) is h
+handed_step Misused kept Is before after len number (Ok (Told.Asks text)) is h = asked (string_bytes text) kept is h
+handed_step Misused kept Is before after len number (Ok (Told.ToSign text)) is h = signs (string_bytes text) kept is h
 handed_step Misused kept Is before after len number (Err (Stop.Refused text)) is h =
     replied (handed_reply Misused kept (λ reply. Is (replies reply)) before after len number h.0 h.1 (Err (Stop.Refused text)) is tt h.2)
 handed_step Misused kept Is before after len number (Err (Stop.Unreadable text)) is h =

@@ -42,8 +42,8 @@ pub handed_verdict : (Misused : Type 0) → (Misused → ⊥) → (Is : Told →
     → HandsVerdictBy Misused Is before after len number
 handed_verdict Misused kept Is before after len number (Ok (Verdict.Accepted text)) is h =
     replied (handed_reply Misused kept (λ reply. Is (replies reply)) before after len number h.0 h.1 (Ok text) is tt h.2)
-handed_verdict Misused kept Is before after len number (Ok (Verdict.Asks text)) is h = asked (string_bytes text) is h
-handed_verdict Misused kept Is before after len number (Ok Verdict.NotAsked) is h = not_asked is h
+handed_verdict Misused kept Is before after len number (Ok (Verdict.Asks text)) is h = asked (string_bytes text) kept is h
+handed_verdict Misused kept Is before after len number (Ok Verdict.NotAsked) is h = not_asked kept is h
 handed_verdict Misused kept Is before after len number (Err (Stop.Refused text)) is h =
     replied (handed_reply Misused kept (λ reply. Is (replies reply)) before after len number h.0 h.1 (Err (Stop.Refused text)) is tt h.2)
 handed_verdict Misused kept Is before after len number (Err (Stop.Unreadable text)) is h =

@@ -46,29 +46,26 @@ pub record IsMisused (Misused : Type 0) (before after : List ℕ) (len : ℕ) : 
   pub misused : Misused
   pub left : IsLeft before after len
 
--- there was no memory, and the caller broke no rule of the call
-pub record IsWithoutMemory (Misused : Type 0) (before after : List ℕ) (len : ℕ) : Type 0 where
-  pub kept : Misused → ⊥
-  pub left : IsLeft before after len
-
 -- by the status: the whole answer, or the whole line of a refusal, or the room
--- that it needs, or nothing
+-- that it needs, or nothing where the caller broke a rule or there was no memory
 abbrev pub Hands : Type 0 → (Reply → Type 0) → List ℕ → List ℕ → ℕ → Status → Type 0
 Hands Misused Is before after len Done = HandsText (λ text. Is (gives text)) before after len
 Hands Misused Is before after len Refused = HandsText (λ text. Is (refuses text)) before after len
 Hands Misused Is before after len Usage = IsMisused Misused before after len
 Hands Misused Is before after len Unread = ⊥
 Hands Misused Is before after len Unwritten = WantsRoom Is before after len
-Hands Misused Is before after len Memory = IsWithoutMemory Misused before after len
+Hands Misused Is before after len Memory = IsLeft before after len
 Hands Misused Is before after len Unreadable =
     HandsText (λ text. Is (unreadable text)) before after len
 
--- the number is that of a status which says what was handed
+-- the number is that of a status which says what was handed, and whoever broke a
+-- rule of the call is told that and nothing else
 pub record HandsBy (Misused : Type 0) (Is : Reply → Type 0) (before after : List ℕ) (len number : ℕ)
     : Type 0 where
   pub status : Status
   pub number_is : number ≡ status_number status
   pub hands : Hands Misused Is before after len status
+  pub misuse : Misused → status ≡ Usage
 
 -- for private functions: the text was written, with this status, or it is too long
 abbrev pub IsGiven : List ℕ → Status → List ℕ → List ℕ → ℕ → Status → Type 0

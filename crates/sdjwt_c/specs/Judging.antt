@@ -117,13 +117,13 @@ HandsAs told text before after len number =
     ((number ≡ told) × IsInRoom text before after len)
     ⊎ ((number ≡ 4) × IsTooLong text before after len)
 
--- a reply is handed as by every call; a question has the number 7, and the line
--- of what was not asked for 8
+-- a reply is handed as by every call; where the caller broke no rule, a question has
+-- the number 7, and the line of what was not asked for 8
 pub data HandsVerdictBy (Misused : Type 0) (Is : Told → Type 0) (before after : List ℕ)
     (len number : ℕ) : Type 0 where
   replied : HandsBy Misused (λ reply. Is (replies reply)) before after len number
       → HandsVerdictBy Misused Is before after len number
-  asked : (text : List ℕ) → Is (asks text) → HandsAs 7 text before after len number
+  asked : (text : List ℕ) → (Misused → ⊥) → Is (asks text) → HandsAs 7 text before after len number
       → HandsVerdictBy Misused Is before after len number
-  not_asked : Is unasked → HandsAs 8 unasked_line before after len number
+  not_asked : (Misused → ⊥) → Is unasked → HandsAs 8 unasked_line before after len number
       → HandsVerdictBy Misused Is before after len number

@@ -184,15 +184,16 @@ SignsPresented file token now word signature reply =
 
 -- ---- what is handed
 
--- a reply is handed as by every call; a question has the number 7, and a text to be signed 9
+-- a reply is handed as by every call; where the caller broke no rule, a question has the number 7,
+-- and a text to be signed 9
 pub data HandsStepBy
     (Misused : Type 0) (Is : Step → Type 0) (before after : List ℕ) (len number : ℕ) : Type 0 where
   replied :
       HandsBy Misused (λ reply. Is (replies reply)) before after len number
       → HandsStepBy Misused Is before after len number
   asked :
-      (text : List ℕ) → Is (asks text) → HandsAs 7 text before after len number
+      (text : List ℕ) → (Misused → ⊥) → Is (asks text) → HandsAs 7 text before after len number
       → HandsStepBy Misused Is before after len number
   signs :
-      (text : List ℕ) → Is (to_sign text) → HandsAs 9 text before after len number
+      (text : List ℕ) → (Misused → ⊥) → Is (to_sign text) → HandsAs 9 text before after len number
       → HandsStepBy Misused Is before after len number

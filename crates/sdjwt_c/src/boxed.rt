@@ -2,7 +2,7 @@
 ghost use Rattle.std.specs.Prelude.{◌≡◌, None, Some, IfOk, IfErr};
 ghost use Rattle.std.specs.Option.{option_map};
 ghost use Rattle.verifier_core.specs.PolicyFile.{IsPolicyFile, IsPolicyFileRefused};
-ghost use Rattle.cli_parts.specs.Stops.{OnRefused, OnUnread, OnUnreadable};
+ghost use Rattle.cli_parts.specs.Stops.{OnUnreadable, NotRefused, NotUnread};
 ghost use Rattle.cli_parts.specs.Telling.{TellsFileFault};
 
 use crate::handle::SdjwtPolicy;
@@ -33,8 +33,8 @@ pub(crate) fn read(alloc: Global, file: &[u8]) -> Result<Box<Policy>, Stop>
     ensures policy { IfOk result (λ policy. IsPolicyFile file.now policy.value) }
     ensures unreadable { IfErr result
         (λ stop. OnUnreadable stop (TellsFileFault (IsPolicyFileRefused file.now))) }
-    ensures fit { IfErr result (λ stop. OnRefused stop (λ _. ⊥)) }
-    ensures read { IfErr result (λ stop. OnUnread stop (λ _. ⊥)) }
+    ensures fit { IfErr result NotRefused }
+    ensures read { IfErr result NotUnread }
 {
     match Box::new(alloc, policy_of(alloc, file)?) {
         Ok(policy) => Ok(policy),

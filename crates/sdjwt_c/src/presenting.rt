@@ -8,7 +8,7 @@
 //! looked at.
 ghost use Rattle.std.specs.Prelude.{◌≡◌, ◌≢◌, ◌<◌, ◌⊎◌, [], None, Some, length, IfOk, IfErr, string_bytes};
 ghost use Rattle.cli_parts.specs.Lines.{line};
-ghost use Rattle.cli_parts.specs.Stops.{OnRefused, OnUnread, OnUnreadable};
+ghost use Rattle.cli_parts.specs.Stops.{OnRefused, OnUnreadable, NotRefused, NotUnread, NotUnreadable};
 ghost use Rattle.cli_parts.specs.Telling.{TellsFileFault};
 ghost use Rattle.compact_form.specs.Compact.{AreWords, compact};
 ghost use Rattle.holder_core.specs.PresentRefusal.{present_refusal_text};
@@ -85,8 +85,8 @@ fn presentation(
 fn refused(alloc: Global, error: &PresentError) -> Stop
     ensures cause { OnRefused result (λ _. error.now ≢ Memory) }
     ensures line { OnRefused result (λ text. text ≡ line (present_refusal_text error.now)) }
-    ensures readable { OnUnreadable result (λ _. ⊥) }
-    ensures read { OnUnread result (λ _. ⊥) }
+    ensures readable { NotUnreadable result }
+    ensures read { NotUnread result }
 {
     if let PresentError::Memory = error {
         return Stop::Memory;
@@ -136,8 +136,8 @@ fn order_of(alloc: Global, file: &[u8]) -> Result<UnsignedPresentFile, Stop>
     ensures order { IfOk result (IsUnsignedPresentFile file.now) }
     ensures unreadable { IfErr result
         (λ stop. OnUnreadable stop (TellsFileFault (IsUnsignedPresentRefused file.now))) }
-    ensures fit { IfErr result (λ stop. OnRefused stop (λ _. ⊥)) }
-    ensures read { IfErr result (λ stop. OnUnread stop (λ _. ⊥)) }
+    ensures fit { IfErr result NotRefused }
+    ensures read { IfErr result NotUnread }
 {
     readable(alloc, read_unsigned_present(alloc, file))
 }
@@ -179,8 +179,8 @@ fn signed_line(
     ensures gives { IfOk result (λ text. IsLineWith unsigned signature.now (string_bytes text)) }
     ensures refuses { IfErr result
         (λ stop. OnRefused stop (IsOverlongLine unsigned signature.now)) }
-    ensures readable { IfErr result (λ stop. OnUnreadable stop (λ _. ⊥)) }
-    ensures read { IfErr result (λ stop. OnUnread stop (λ _. ⊥)) }
+    ensures readable { IfErr result NotUnreadable }
+    ensures read { IfErr result NotUnread }
 {
     match unsigned.signed(alloc, signature) {
         Ok(parts) => Ok(parts_line(alloc, &parts)?),
@@ -202,8 +202,8 @@ fn presented_for(
         (λ text. GivesFor order token.now now (Some word) signature.now (string_bytes text)) }
     ensures refuses { IfErr result
         (λ stop. OnRefused stop (RefusesOrIsLong order token.now now (Some word) signature.now)) }
-    ensures readable { IfErr result (λ stop. OnUnreadable stop (λ _. ⊥)) }
-    ensures read { IfErr result (λ stop. OnUnread stop (λ _. ⊥)) }
+    ensures readable { IfErr result NotUnreadable }
+    ensures read { IfErr result NotUnread }
 {
     match presentation(alloc, order, token, now, Some(word)) {
         Ok(Presentation::AsksIssuer(_)) => unreachable!(),
@@ -229,7 +229,7 @@ fn presented(
         (RefusesPresented order.now token.now now (Some word) signature.now)) }
     ensures unreadable { IfErr result
         (λ stop. OnUnreadable stop (TellsFileFault (IsUnsignedPresentRefused order.now))) }
-    ensures read { IfErr result (λ stop. OnUnread stop (λ _. ⊥)) }
+    ensures read { IfErr result NotUnread }
 {
     let order = order_of(alloc, order)?;
     presented_for(alloc, order, token, now, word, signature)

@@ -1,7 +1,7 @@
 // What a caller says for a judgement: of the two signatures by numbers, and the
 // algorithms of the holder as JSON.
 ghost use Rattle.std.specs.Prelude.{◌≡◌, IfOk, IfErr, IfSome, IfNone};
-ghost use Rattle.cli_parts.specs.Stops.{OnRefused, OnUnread, OnUnreadable};
+ghost use Rattle.cli_parts.specs.Stops.{OnUnreadable, NotRefused, NotUnread};
 ghost use Rattle.sdjwt_c.specs.Numbers.{answer_numbered, answers_numbered};
 ghost use Rattle.sdjwt_c.specs.Said.{SaysAlgs, SaysNoAlgs, IsListText, IsNoListText};
 
@@ -67,8 +67,8 @@ fn list_of(alloc: Global, text: &[u8]) -> Result<Option<TextList>, NoMemory>
 pub(crate) fn algs_of(alloc: Global, policy: &Policy, text: &[u8]) -> Result<TextList, Stop>
     ensures algs { IfOk result (SaysAlgs policy.now text.now) }
     ensures unreadable { IfErr result (λ stop. OnUnreadable stop (SaysNoAlgs text.now)) }
-    ensures fit { IfErr result (λ stop. OnRefused stop (λ _. ⊥)) }
-    ensures read { IfErr result (λ stop. OnUnread stop (λ _. ⊥)) }
+    ensures fit { IfErr result NotRefused }
+    ensures read { IfErr result NotUnread }
 {
     if text.is_empty() {
         return Ok(copied(alloc, &policy.algs)?);

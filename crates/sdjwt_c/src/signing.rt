@@ -8,7 +8,7 @@ ghost use Rattle.sd_outside.specs.Limits.{json_depth_max};
 ghost use Rattle.claim_tree.specs.Tree.{depth};
 ghost use Rattle.claim_tree.specs.View.{tree_of};
 ghost use Rattle.cli_parts.specs.Lines.{line};
-ghost use Rattle.cli_parts.specs.Stops.{OnRefused, OnUnread, OnUnreadable};
+ghost use Rattle.cli_parts.specs.Stops.{OnRefused, OnUnreadable, NotUnread, NotUnreadable};
 ghost use Rattle.issuer_core.specs.Order.{order_of};
 ghost use Rattle.issuer_core.specs.RefusalLine.{issue_refusal_text};
 ghost use Rattle.issuer_core.specs.Seed.{maker_of};
@@ -41,8 +41,8 @@ fn alg_name(bytes: &[u8]) -> Option<&str>
 fn refused(alloc: Global, error: &IssueError) -> Stop
     ensures cause { OnRefused result (λ _. error.now ≢ Memory) }
     ensures line { OnRefused result (λ text. text ≡ line (issue_refusal_text error.now)) }
-    ensures readable { OnUnreadable result (λ _. ⊥) }
-    ensures read { OnUnread result (λ _. ⊥) }
+    ensures readable { NotUnreadable result }
+    ensures read { NotUnread result }
 {
     if let IssueError::Memory = error {
         return Stop::Memory;
@@ -71,8 +71,8 @@ fn unsigned_for(
     ensures words { IfOk result AreUnsignedWords }
     ensures refuses { IfErr result
         (λ stop. OnRefused stop (TellsNotToSign seed.now (order_of order))) }
-    ensures readable { IfErr result (λ stop. OnUnreadable stop (λ _. ⊥)) }
-    ensures read { IfErr result (λ stop. OnUnread stop (λ _. ⊥)) }
+    ensures readable { IfErr result NotUnreadable }
+    ensures read { IfErr result NotUnread }
 {
     match to_sign(alloc, order, seed, alg) {
         Ok(token) => Ok(token),
@@ -87,7 +87,7 @@ fn unsigned(alloc: Global, order: &[u8], alg: &str, seed: &[u8]) -> Result<Unsig
     ensures refuses { IfErr result (λ stop. OnRefused stop (RefusesToSign order.now seed.now)) }
     ensures unreadable { IfErr result
         (λ stop. OnUnreadable stop (HasNoUnsignedOrder order.now seed.now)) }
-    ensures read { IfErr result (λ stop. OnUnread stop (λ _. ⊥)) }
+    ensures read { IfErr result NotUnread }
 {
     let order = readable(alloc, read_unsigned_order(alloc, order))?;
     match seed.first_chunk::<32>() {
@@ -103,7 +103,7 @@ fn asked_text(alloc: Global, order: &[u8], alg: &str, seed: &[u8]) -> Result<Str
     ensures refuses { IfErr result (λ stop. OnRefused stop (RefusesToSign order.now seed.now)) }
     ensures unreadable { IfErr result
         (λ stop. OnUnreadable stop (HasNoUnsignedOrder order.now seed.now)) }
-    ensures read { IfErr result (λ stop. OnUnread stop (λ _. ⊥)) }
+    ensures read { IfErr result NotUnread }
 {
     let token = unsigned(alloc, order, alg, seed)?;
     Ok(token.jwt.text(alloc)?.into_string())
@@ -115,8 +115,8 @@ fn token_line(alloc: Global, token: UnsignedToken, signature: &[u8]) -> Result<S
     requires some { 0 < length signature.now }
     ensures gives { IfOk result (λ text. IsTokenLine token signature.now (string_bytes text)) }
     ensures refuses { IfErr result (λ stop. OnRefused stop (IsOverlongLine token signature.now)) }
-    ensures readable { IfErr result (λ stop. OnUnreadable stop (λ _. ⊥)) }
-    ensures read { IfErr result (λ stop. OnUnread stop (λ _. ⊥)) }
+    ensures readable { IfErr result NotUnreadable }
+    ensures read { IfErr result NotUnread }
 {
     match token.signed(alloc, signature) {
         Ok(parts) => Ok(as_line(print(alloc, &parts)?)?),
@@ -139,7 +139,7 @@ fn signed_token(
         (λ stop. OnRefused stop (RefusesToken order.now alg.now seed.now signature.now)) }
     ensures unreadable { IfErr result
         (λ stop. OnUnreadable stop (HasNoUnsignedOrder order.now seed.now)) }
-    ensures read { IfErr result (λ stop. OnUnread stop (λ _. ⊥)) }
+    ensures read { IfErr result NotUnread }
 {
     let token = unsigned(alloc, order, alg, seed)?;
     token_line(alloc, token, signature)

@@ -4,7 +4,7 @@ ghost use Rattle.json_form.specs.Token.{IsToken};
 ghost use Rattle.json_form.specs.Printable.{IsPrintable};
 ghost use Rattle.sdjwt_cli.specs.Converting.{IsConvertRefused, written, HasRoom, Converts};
 ghost use Rattle.sdjwt_cli.specs.ConvertingSteps.{IsJsonOf};
-ghost use Rattle.cli_parts.specs.Stops.{OnRefused, OnUnread, OnUnreadable};
+ghost use Rattle.cli_parts.specs.Stops.{OnRefused, NotUnread, NotUnreadable};
 ghost use Rattle.cli_parts.specs.Telling.{TellsFault};
 
 use crate::form::Form;
@@ -38,8 +38,8 @@ fn convert_token(alloc: Global, form: Form, token: TokenText<'_>) -> Result<Stri
         → IfOk result (λ text. Converts form file (string_bytes text)) }
     ensures refuses { (file : List ℕ) → IsToken file token.entry
         → IfErr result (λ stop. OnRefused stop (TellsFault (IsConvertRefused form file))) }
-    ensures read { IfErr result (λ stop. OnUnread stop (λ _. ⊥)) }
-    ensures readable { IfErr result (λ stop. OnUnreadable stop (λ _. ⊥)) }
+    ensures read { IfErr result NotUnread }
+    ensures readable { IfErr result NotUnreadable }
 {
     let text = as_line(write_as(alloc, form, token)?)?;
     if text.len() <= FILE_MAX {
@@ -53,8 +53,8 @@ pub fn convert(alloc: Global, form: Form, file: &[u8]) -> Result<String, Stop>
     ensures converts { IfOk result (λ text. Converts form file.now (string_bytes text)) }
     ensures refuses { IfErr result
         (λ stop. OnRefused stop (TellsFault (IsConvertRefused form file.now))) }
-    ensures read { IfErr result (λ stop. OnUnread stop (λ _. ⊥)) }
-    ensures readable { IfErr result (λ stop. OnUnreadable stop (λ _. ⊥)) }
+    ensures read { IfErr result NotUnread }
+    ensures readable { IfErr result NotUnreadable }
 {
     match token_of(alloc, file) {
         Ok(token) => convert_token(alloc, form, token),

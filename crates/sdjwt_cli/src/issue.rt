@@ -7,7 +7,7 @@ ghost use Rattle.claim_tree.specs.View.{tree_of};
 ghost use Rattle.issuer_core.specs.OrderFile.{IsOrderFile};
 ghost use Rattle.issuer_core.specs.Order.{order_of as order_said};
 ghost use Rattle.sdjwt_cli.specs.Issuing.{IsIssuedBy, TellsRefusal, Issues, DoesNotIssue, HasNoOrder};
-ghost use Rattle.cli_parts.specs.Stops.{OnRefused, OnUnread, OnUnreadable};
+ghost use Rattle.cli_parts.specs.Stops.{OnRefused, OnUnreadable, NotUnread, NotUnreadable};
 
 use cli_parts::{Stop, as_line, readable, short_seed_line};
 use compact_form::{Parts, print};
@@ -29,8 +29,8 @@ pub(crate) fn issue_parts(
     ensures issued { IfOk result (IsIssuedBy seed.now (order_said order) key) }
     ensures refuses { IfErr result
         (λ stop. OnRefused stop (TellsRefusal seed.now (order_said order) key)) }
-    ensures readable { IfErr result (λ stop. OnUnreadable stop (λ _. ⊥)) }
-    ensures read { IfErr result (λ stop. OnUnread stop (λ _. ⊥)) }
+    ensures readable { IfErr result NotUnreadable }
+    ensures read { IfErr result NotUnread }
 {
     match issue_owned(alloc, order, seed, &mut key) {
         Ok(parts) => Ok(parts),
@@ -48,8 +48,8 @@ fn issue_for(alloc: Global, asked: IssueFile, seed: &[u8; SEED_LEN]) -> Result<S
     ensures refuses { (order_file seed_file : List ℕ) → IsOrderFile order_file asked
         → IsFirstChunk seed_file seed.now seed_len
         → IfErr result (λ stop. OnRefused stop (DoesNotIssue order_file seed_file)) }
-    ensures readable { IfErr result (λ stop. OnUnreadable stop (λ _. ⊥)) }
-    ensures read { IfErr result (λ stop. OnUnread stop (λ _. ⊥)) }
+    ensures readable { IfErr result NotUnreadable }
+    ensures read { IfErr result NotUnread }
 {
     let IssueFile { order, key } = asked;
     let parts = issue_parts(alloc, order, seed, key)?;
@@ -63,7 +63,7 @@ pub fn issue(alloc: Global, order_file: &[u8], seed_file: &[u8]) -> Result<Strin
         (λ stop. OnRefused stop (DoesNotIssue order_file.now seed_file.now)) }
     ensures unreadable { IfErr result
         (λ stop. OnUnreadable stop (HasNoOrder order_file.now seed_file.now)) }
-    ensures read { IfErr result (λ stop. OnUnread stop (λ _. ⊥)) }
+    ensures read { IfErr result NotUnread }
 {
     let asked = readable(alloc, read_order(alloc, order_file))?;
     match seed_file.first_chunk::<SEED_LEN>() {

@@ -10,7 +10,7 @@ ghost use Rattle.holder_core.specs.declared.errors.PresentError.{PresentError};
 ghost use Rattle.selection_core.specs.Never.{Judges, never_rule};
 ghost use Rattle.sdjwt_cli.specs.Presenting.{signing_key, Presents, DoesNotPresent};
 ghost use Rattle.sdjwt_cli.specs.PresentingSteps.{IsLineOf, IsRefusalOf};
-ghost use Rattle.cli_parts.specs.Stops.{OnRefused, OnUnread, OnUnreadable};
+ghost use Rattle.cli_parts.specs.Stops.{OnRefused, OnUnreadable, NotUnread, NotUnreadable};
 ghost use Rattle.cli_parts.specs.Lines.{line};
 ghost use Rattle.cli_parts.specs.Telling.{TellsFileFault};
 
@@ -70,8 +70,8 @@ fn told(alloc: Global, presented: Result<Parts, PresentError>) -> Result<String,
     requires words { IfOk presented AreWords }
     ensures presents { IfOk result (λ text. IsLineOf presented (string_bytes text)) }
     ensures refuses { IfErr result (λ stop. OnRefused stop (IsRefusalOf presented)) }
-    ensures readable { IfErr result (λ stop. OnUnreadable stop (λ _. ⊥)) }
-    ensures read { IfErr result (λ stop. OnUnread stop (λ _. ⊥)) }
+    ensures readable { IfErr result NotUnreadable }
+    ensures read { IfErr result NotUnread }
 {
     match presented {
         Ok(parts) => Ok(as_line(print(alloc, &parts)?)?),
@@ -91,8 +91,8 @@ fn present_for(
         → IfOk result (λ text. Presents file token_file.now now (string_bytes text)) }
     ensures refuses { (file : List ℕ) → IsPresentFile file said
         → IfErr result (λ stop. OnRefused stop (DoesNotPresent file token_file.now now)) }
-    ensures readable { IfErr result (λ stop. OnUnreadable stop (λ _. ⊥)) }
-    ensures read { IfErr result (λ stop. OnUnread stop (λ _. ⊥)) }
+    ensures readable { IfErr result NotUnreadable }
+    ensures read { IfErr result NotUnread }
 {
     let PresentFile { ask, never, key } = said;
     let mut key = signer(key);
@@ -113,7 +113,7 @@ pub fn present(
         (λ stop. OnRefused stop (DoesNotPresent order_file.now token_file.now now)) }
     ensures unreadable { IfErr result
         (λ stop. OnUnreadable stop (TellsFileFault (IsPresentFileRefused order_file.now))) }
-    ensures read { IfErr result (λ stop. OnUnread stop (λ _. ⊥)) }
+    ensures read { IfErr result NotUnread }
 {
     let said = readable(alloc, read_present(alloc, order_file))?;
     present_for(alloc, said, token_file, now)

@@ -9,7 +9,7 @@ ghost use Rattle.cli_parts.specs.Lines.{line};
 ghost use Rattle.sdjwt_cli.specs.Show.{IsHead, kind_text, shown_line, Shows, IsShowRefused};
 ghost use Rattle.sdjwt_cli.specs.ShowSteps.{disclosure_shown, AddsLine, AddsLines, IsUnread};
 ghost use Rattle.json_form.specs.Token.{IsToken};
-ghost use Rattle.cli_parts.specs.Stops.{OnRefused, OnUnread, OnUnreadable};
+ghost use Rattle.cli_parts.specs.Stops.{OnRefused, NotUnread, NotUnreadable};
 ghost use Rattle.cli_parts.specs.Telling.{TellsFault};
 
 use crate::split::push_binding;
@@ -126,8 +126,8 @@ fn push_all_shown(
         (AddsLines hash disclosures.entry (string_bytes text.old) (string_bytes text.new)) }
     ensures unread { IfErr result
         (λ stop. OnRefused stop (TellsFault (IsUnread disclosures.entry))) }
-    ensures read { IfErr result (λ stop. OnUnread stop (λ _. ⊥)) }
-    ensures readable { IfErr result (λ stop. OnUnreadable stop (λ _. ⊥)) }
+    ensures read { IfErr result NotUnread }
+    ensures readable { IfErr result NotUnreadable }
 {
     for (i, part) in disclosures.enumerate() {
         match push_shown(alloc, reader, text, i, hash, part) {
@@ -168,8 +168,8 @@ fn show_view(alloc: Global, file: &[u8], token: &TokenView<'_>) -> Result<String
     requires { IsToken file.now token.now }
     ensures shows { IfOk result (λ text. Shows file.now (string_bytes text)) }
     ensures refuses { IfErr result (λ stop. OnRefused stop (TellsFault (IsShowRefused file.now))) }
-    ensures read { IfErr result (λ stop. OnUnread stop (λ _. ⊥)) }
-    ensures readable { IfErr result (λ stop. OnUnreadable stop (λ _. ⊥)) }
+    ensures read { IfErr result NotUnread }
+    ensures readable { IfErr result NotUnreadable }
 {
     let JwtView {
         protected,
@@ -207,8 +207,8 @@ fn show_view(alloc: Global, file: &[u8], token: &TokenView<'_>) -> Result<String
 pub fn show(alloc: Global, file: &[u8]) -> Result<String, Stop>
     ensures shows { IfOk result (λ text. Shows file.now (string_bytes text)) }
     ensures refuses { IfErr result (λ stop. OnRefused stop (TellsFault (IsShowRefused file.now))) }
-    ensures read { IfErr result (λ stop. OnUnread stop (λ _. ⊥)) }
-    ensures readable { IfErr result (λ stop. OnUnreadable stop (λ _. ⊥)) }
+    ensures read { IfErr result NotUnread }
+    ensures readable { IfErr result NotUnreadable }
 {
     let token = match token_of(alloc, file) {
         Ok(token) => token,

@@ -5,7 +5,7 @@ ghost use Rattle.std.specs.Option.{option_map};
 ghost use Rattle.compact_form.specs.Views.{jwt_of};
 ghost use Rattle.cli_parts.specs.Lines.{line};
 ghost use Rattle.sdjwt_cli.specs.Split.{disclosure_lines, binding_line, signed_lines, split_lines, Splits};
-ghost use Rattle.cli_parts.specs.Stops.{OnRefused, OnUnread, OnUnreadable};
+ghost use Rattle.cli_parts.specs.Stops.{OnRefused, NotUnread, NotUnreadable};
 ghost use Rattle.cli_parts.specs.Telling.{TellsFault};
 ghost use Rattle.json_form.specs.Token.{IsTextRefused};
 
@@ -92,8 +92,8 @@ fn room_for(file: &[u8], disclosures: usize) -> usize {
 pub fn split(alloc: Global, file: &[u8]) -> Result<String, Stop>
     ensures gives { IfOk result (λ text. Splits file.now (string_bytes text)) }
     ensures refuses { IfErr result (λ stop. OnRefused stop (TellsFault (IsTextRefused file.now))) }
-    ensures read { IfErr result (λ stop. OnUnread stop (λ _. ⊥)) }
-    ensures readable { IfErr result (λ stop. OnUnreadable stop (λ _. ⊥)) }
+    ensures read { IfErr result NotUnread }
+    ensures readable { IfErr result NotUnreadable }
 {
     let token = token_of(alloc, file)?;
     let view = token.view();

@@ -4,7 +4,7 @@ ghost use Rattle.std.specs.Prelude.{◌≡◌, ◌++◌, IfOk, IfErr, OnOk, stri
 ghost use Rattle.compact_form.specs.Compact.{AreWords};
 ghost use Rattle.sdjwt_cli.specs.Generated.{generated, generated_seed, generated_key};
 ghost use Rattle.sdjwt_cli.specs.Issuing.{IsIssuedBy};
-ghost use Rattle.cli_parts.specs.Stops.{OnRefused, OnUnread, OnUnreadable};
+ghost use Rattle.cli_parts.specs.Stops.{OnRefused, NotUnread, NotUnreadable};
 ghost use Rattle.sdjwt_cli.specs.Summary.{Summarizes, DoesNotSummarize, count_line, summary_lines};
 ghost use Rattle.sdjwt_cli.specs.SummarySteps.{IsPresentedOf, IsAcceptable, IsVerified};
 
@@ -30,8 +30,8 @@ const NOW: u64 = 0;
 fn issue_order(alloc: Global, count: u32) -> Result<Parts, Stop>
     ensures issued { IfOk result (IsIssuedBy generated_seed (generated count) generated_key) }
     ensures refuses { IfErr result (λ stop. OnRefused stop (DoesNotSummarize count)) }
-    ensures readable { IfErr result (λ stop. OnUnreadable stop (λ _. ⊥)) }
-    ensures read { IfErr result (λ stop. OnUnread stop (λ _. ⊥)) }
+    ensures readable { IfErr result NotUnreadable }
+    ensures read { IfErr result NotUnread }
 {
     let order = order_of(alloc, count)?;
     issue_parts(alloc, order, &SEED, key())
@@ -132,8 +132,8 @@ fn summarize(alloc: Global, count: u32, issued: &Parts) -> Result<String, NoMemo
 pub(crate) fn summary(alloc: Global, count: u32) -> Result<String, Stop>
     ensures summarizes { IfOk result (λ text. Summarizes count (string_bytes text)) }
     ensures refuses { IfErr result (λ stop. OnRefused stop (DoesNotSummarize count)) }
-    ensures readable { IfErr result (λ stop. OnUnreadable stop (λ _. ⊥)) }
-    ensures read { IfErr result (λ stop. OnUnread stop (λ _. ⊥)) }
+    ensures readable { IfErr result NotUnreadable }
+    ensures read { IfErr result NotUnread }
 {
     let issued = issue_order(alloc, count)?;
     Ok(summarize(alloc, count, &issued)?)

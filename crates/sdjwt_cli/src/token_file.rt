@@ -2,7 +2,7 @@
 ghost use Rattle.std.specs.Prelude.{IfOk, IfErr};
 ghost use Rattle.json_form.specs.Token.{IsToken, IsTextRefused};
 ghost use Rattle.json_form.specs.Printable.{IsPrintable};
-ghost use Rattle.cli_parts.specs.Stops.{OnRefused, OnUnread, OnUnreadable};
+ghost use Rattle.cli_parts.specs.Stops.{OnRefused, NotUnread, NotUnreadable};
 ghost use Rattle.cli_parts.specs.Telling.{TellsFault};
 
 use cli_parts::{Stop, refused};
@@ -14,8 +14,8 @@ pub(crate) fn token_of(alloc: Global, file: &[u8]) -> Result<TokenText<'_>, Stop
     ensures token { IfOk result (IsToken file.now) }
     ensures printable { IfOk result IsPrintable }
     ensures refuses { IfErr result (λ stop. OnRefused stop (TellsFault (IsTextRefused file.now))) }
-    ensures read { IfErr result (λ stop. OnUnread stop (λ _. ⊥)) }
-    ensures readable { IfErr result (λ stop. OnUnreadable stop (λ _. ⊥)) }
+    ensures read { IfErr result NotUnread }
+    ensures readable { IfErr result NotUnreadable }
 {
     match TokenText::read(alloc, file) {
         Ok(token) => Ok(token),

@@ -5,7 +5,7 @@ ghost use Rattle.claim_tree.specs.View.{tree_of};
 ghost use Rattle.verifier_core.specs.PolicyFile.{IsPolicyFileRefused};
 ghost use Rattle.cli_parts.specs.Lines.{line};
 ghost use Rattle.sdjwt_cli.specs.Verify.{Verifies, DoesNotVerify, VerifiesUnder, DoesNotVerifyUnder};
-ghost use Rattle.cli_parts.specs.Stops.{OnRefused, OnUnread, OnUnreadable};
+ghost use Rattle.cli_parts.specs.Stops.{OnRefused, OnUnreadable, NotUnread, NotUnreadable};
 ghost use Rattle.cli_parts.specs.Telling.{TellsFileFault};
 
 use claim_tree::{Tree, write};
@@ -33,8 +33,8 @@ pub fn verify_under(
         (λ text. VerifiesUnder policy.now token_file.now now (string_bytes text)) }
     ensures refuses { IfErr result
         (λ stop. OnRefused stop (DoesNotVerifyUnder policy.now token_file.now now)) }
-    ensures readable { IfErr result (λ stop. OnUnreadable stop (λ _. ⊥)) }
-    ensures read { IfErr result (λ stop. OnUnread stop (λ _. ⊥)) }
+    ensures readable { IfErr result NotUnreadable }
+    ensures read { IfErr result NotUnread }
 {
     match verify_payload(alloc, token_file, policy, now, &mut Steps::new()) {
         Ok(payload) => Ok(json_line(alloc, &payload)?),
@@ -56,7 +56,7 @@ pub fn verify(
         (λ stop. OnRefused stop (DoesNotVerify policy_file.now token_file.now now)) }
     ensures unreadable { IfErr result
         (λ stop. OnUnreadable stop (TellsFileFault (IsPolicyFileRefused policy_file.now))) }
-    ensures read { IfErr result (λ stop. OnUnread stop (λ _. ⊥)) }
+    ensures read { IfErr result NotUnread }
 {
     let policy = policy_of(alloc, policy_file)?;
     verify_under(alloc, &policy, token_file, now)

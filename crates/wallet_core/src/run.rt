@@ -4,7 +4,7 @@ ghost use Rattle.std.specs.List.{AllZip};
 ghost use Rattle.sd_outside.specs.Causes.{Rose};
 ghost use Rattle.cli_parts.specs.Outside.{outside};
 ghost use Rattle.cli_parts.specs.Runs.{IsFetched, MissesWord, RunKeeps};
-ghost use Rattle.cli_parts.specs.Stops.{IsReply, OnRefused, OnUnread, OnUnreadable};
+ghost use Rattle.cli_parts.specs.Stops.{IsReply, OnUnread, NotRefused, NotUnread, NotUnreadable};
 ghost use Rattle.compact_form.specs.Compact.{AreWords};
 ghost use Rattle.selection_core.specs.Never.{Judges, never_rule};
 ghost use Rattle.wallet_core.specs.Meets.{Meets};
@@ -30,8 +30,8 @@ fn fetch_tokens<C: Cabinet>(
 ) -> Result<CredentialList, Stop>
     ensures all { IfOk result
         (λ held. AllZip (IsFetched (C.holds cab.old)) (map string_bytes names.now) held) }
-    ensures refuses { IfErr result (λ stop. OnRefused stop (λ _. ⊥)) }
-    ensures unreadable { IfErr result (λ stop. OnUnreadable stop (λ _. ⊥)) }
+    ensures refuses { IfErr result NotRefused }
+    ensures unreadable { IfErr result NotUnreadable }
     ensures unread { IfErr result
         (λ stop. OnUnread stop
         (λ word. (query : List ℕ)
@@ -94,7 +94,7 @@ fn none_line(alloc: Global) -> Result<String, NoMemory>
 /// query with the fewest disclosures, and the compact text of what it presents.
 pub fn answer_files(alloc: Global, query_file: &[u8], held: &CredentialList) -> Result<String, Stop>
     ensures replies { IsReply (WalletAnswers query_file.now held.now) result }
-    ensures read { IfErr result (λ stop. OnUnread stop (λ _. ⊥)) }
+    ensures read { IfErr result NotUnread }
 {
     let said = readable(alloc, read_query(alloc, query_file))?;
     let QueryFile { query, never } = said;

@@ -28,5 +28,6 @@ returns-in-Err c =
     record {
       status = Memory;
       number_is = c.number-in-Err.ensures ∙ ap status_number c.leave-in-Err.ensures.status;
-      hands = record { kept = λ misused. misused fit; left = record { len_is = c.leave-in-Err.ensures.len; room_is = refl } };
+      hands = record { len_is = c.leave-in-Err.ensures.len; room_is = refl };
+      misuse = λ misused. absurd (misused fit);
     }

@@ -1,0 +1,125 @@
+// Presenting where the caller checks the issuer's signature and makes the holder's, over the token
+// of RFC 9901 section 5.2 without its key binding token.
+ghost use Rattle.std.specs.Prelude.{◌≡◌, ◌<◌, length, IfOk};
+
+use crate::judge_tests::PRESENTED;
+use claim_tree::{Path, write};
+use compact_form::print;
+use digest_index::Steps;
+use holder_core::{
+    PresentError, Presentation, UnsignedPresentation, present_unsigned, read_unsigned_present,
+    refusal_line,
+};
+use key_binding::SignatureAnswer;
+use sd_outside::TextBox;
+use selection_core::Consent;
+use std::alloc::Global;
+use std::test::Fail;
+
+const ALONE: &str = r#"{"algs":["ES256"],"want":["/given_name"]}"#;
+
+const BOUND: &str =
+    r#"{"algs":["ES256"],"want":["/given_name"],"binding":{"alg":"ES384","aud":"v","nonce":"n"}}"#;
+
+// One that names the key of the holder, which the payload does not name.
+const KEY_NAMED: &str =
+    r#"{"algs":["ES256"],"want":[],"binding":{"alg":"ES384","aud":"v","nonce":"n","kid":"h"}}"#;
+
+const OTHER_ALG: &str = r#"{"algs":["ES384"],"want":[]}"#;
+
+const GIVEN_NAME: &str = "WyIyR0xDNDJzS1F2ZUNmR2ZyeU5STjl3IiwgImdpdmVuX25hbWUiLCAiSm9obiJd";
+
+// `{"alg":"ES384","typ":"kb+jwt"}` and, with the hash of what stands before it,
+// `{"aud":"v","iat":1000,"nonce":"n","sd_hash":"3tB8zOIgGsVX3vCF4fUU8maeEnSRTDPv3XRZoEuuUPI"}`.
+const BINDING: &str =
+    "eyJhbGciOiJFUzM4NCIsInR5cCI6ImtiK2p3dCJ9.eyJhdWQiOiJ2IiwiaWF0IjoxMDAwLCJub25jZSI6Im4iLCJzZF9oYXNoIjoiM3RCOHpPSWdHc1ZYM3ZDRjRmVVU4bWFlRW5TUlREUHYzWFJab0V1dVVQSSJ9";
+
+// How far the token is presented, where all places may be shown.
+fn presented(
+    alloc: Global,
+    order: &str,
+    answer: Option<SignatureAnswer>,
+) -> Result<Result<Presentation, PresentError>, Fail> {
+    let said = read_unsigned_present(alloc, order.as_bytes()).map_err(|_| "no order")?;
+    let consent = Consent::new(|_: &Path| true);
+    let Some((token, _)) = PRESENTED.rsplit_once('~') else {
+        return Err("no disclosures".into());
+    };
+    let token = format!(in alloc; "{token}~")?;
+    let (text, steps) = (token.as_bytes(), &mut Steps::new());
+    Ok(present_unsigned(alloc, text, &said.ask, answer, &consent, 1000, steps))
+}
+
+// What is told of it. A question has the algorithm, and the lengths of the signature and of the
+// text that this is over; of a presentation stands here what comes behind the issuer's JWT.
+fn told(alloc: Global, order: &str, answer: Option<SignatureAnswer>) -> Result<TextBox, Fail> {
+    match presented(alloc, order, answer)? {
+        Ok(Presentation::AsksIssuer(question)) => {
+            let (alg, text) = (question.header.alg.as_str(), question.text.as_str());
+            let (count, length) = (question.signature.bytes().len(), text.len());
+            Ok(TextBox::from_string(format!(in alloc; "asks {alg} {count} {length}")?))
+        }
+        Ok(Presentation::ToSign(unsigned)) => Ok(unsigned.binding.text(alloc)?),
+        Ok(Presentation::Presented(parts)) => behind_jwt(alloc, print(alloc, &parts)?.as_str()),
+        Err(error) => Ok(refusal_line(alloc, &error)?),
+    }
+}
+
+// What stands behind the first `~`.
+fn behind_jwt(alloc: Global, token: &str) -> Result<TextBox, Fail> {
+    match token.split_once('~') {
+        Some((_, shown)) => Ok(TextBox::make(alloc, shown)?),
+        None => Err("no disclosures".into()),
+    }
+}
+
+#[test]
+fn the_signature_of_the_issuer_is_asked_for_and_decides(rt: HostRuntime) -> Result<(), Fail> {
+    let alloc = rt.alloc();
+    let alone = format!(in alloc; "{GIVEN_NAME}~")?;
+    for (order, answer, wanted) in [
+        (ALONE, None, "asks ES256 64 1099"),
+        (BOUND, None, "asks ES256 64 1099"),
+        (OTHER_ALG, None, "refused 7 algRefused"),
+        (BOUND, Some(SignatureAnswer::Bad), "refused 10 badSignature"),
+        (
+            ALONE,
+            Some(SignatureAnswer::Unknown),
+            "refused 9 issuerKeyUnknown",
+        ),
+        (
+            KEY_NAMED,
+            Some(SignatureAnswer::Good),
+            "refused 74 bindingKeyDiffers",
+        ),
+        (ALONE, Some(SignatureAnswer::Good), alone.as_str()),
+        (BOUND, Some(SignatureAnswer::Good), BINDING),
+    ] {
+        let told = told(alloc, order, answer)?;
+        assert_eq!(rt; told.as_str(), wanted, "{order} {answer:?}");
+    }
+    Ok(())
+}
+
+// What is to be signed for the order that asks for a key binding token.
+fn unsigned(alloc: Global) -> Result<UnsignedPresentation, Fail> {
+    match presented(alloc, BOUND, Some(SignatureAnswer::Good))? {
+        Ok(Presentation::ToSign(unsigned)) => Ok(unsigned),
+        _ => Err("nothing is to be signed".into()),
+    }
+}
+
+// The payload beside it tells the key of the holder. The signature is the base64url text of its
+// bytes.
+#[test]
+fn a_signature_makes_the_presentation(rt: HostRuntime) -> Result<(), Fail> {
+    let alloc = rt.alloc();
+    let unsigned = unsigned(alloc)?;
+    let payload = write(alloc, &unsigned.payload)?;
+    assert!(rt; payload.as_str().contains(r#""cnf":{"jwk":{"crv":"P-256""#));
+    let parts = unsigned.signed(alloc, &[7; 6]).map_err(|_| "too long")?;
+    let shown = behind_jwt(alloc, print(alloc, &parts)?.as_str())?;
+    let wanted = format!(in alloc; "{GIVEN_NAME}~{BINDING}.BwcHBwcH")?;
+    assert_eq!(rt; shown.as_str(), wanted.as_str());
+    Ok(())
+}
