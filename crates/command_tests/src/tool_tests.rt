@@ -1,4 +1,5 @@
 // What each tool asks of its cabinet and of its source, and in how many pieces it answers.
+ghost use Rattle.std.specs.Prelude.{◌≡◌, IfOk};
 
 use crate::fetch_tests::{Pieces, Recorded, words_of};
 use sd_outside::{Failed, MemSink, MemSource, Sink, Source};
@@ -29,7 +30,9 @@ impl Source for Pulled {
 }
 
 // Two lines, of which a pull gives one.
-fn two_lines(alloc: Global) -> Result<MemSource, Fail> {
+fn two_lines(alloc: Global) -> Result<MemSource, Fail>
+    ensures { IfOk result (λ source. source.taken ≡ 0) }
+{
     Ok(MemSource::new(alloc, b"a\nb\n", 2)?)
 }
 
@@ -40,7 +43,9 @@ fn left_by<O: Sink>(
     words: &str,
     source: MemSource,
     out: &mut O,
-) -> Result<String, Fail> {
+) -> Result<String, Fail>
+    requires { source.taken ≡ 0 }
+{
     let words = words_of(alloc, words)?;
     let mut cabinet = Recorded::with_files(alloc)?;
     let mut pulled = Pulled { source, pulls: 0 };
