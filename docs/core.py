@@ -30,7 +30,7 @@ ROOTS = ["sdjwt_cli::top::run", "sdjwt_cli::laws::presented", "sdjwt_cli::laws::
          "tools_cli::tools::run_tools", "feed_core::laws::any_cut", "cli_parts::host::exit_code"]
 # The same for who takes the libraries for themselves.
 HEADLINE = [
-    "examples_service::end_to_end::issue_present_verify::shown",
+    "sdjwt_lib::end_to_end::issue_present_verify::shown",
     "verifier_core::verdict::verify_payload::accepted",
     "verifier_core::verdict::verify_payload::refused",
 ]
@@ -38,6 +38,8 @@ HEADLINE = [
 WORD = re.compile(r"[^\W\d][\w'-]*(?:\.[^\W\d][\w'-]*)*")
 USE = re.compile(r"^\s*(?:ghost )?use ([A-Za-z_][\w.]*?)(?:\.\{(.*?)\}| as (\w+))?;?\s*$", re.M)
 HEAD = re.compile(r"(?:abbrev |unfoldable )*(?:pub )?(?:(record|data) )?([^\s:({]+)(?= |$)")
+# A module that another crate hands on, behind the name of its own.
+HANDED_ON = re.compile(r"^Rattle\.\w+\.specs\.(%s)(?=\.)" % "|".join(CRATES))
 
 
 class File:
@@ -47,6 +49,7 @@ class File:
         self.text = path.read_text(encoding="utf-8")
         self.imports, self.aliases, self.defined, self.order = {}, {}, {}, []
         for module, names, alias in USE.findall(self.text):
+            module = HANDED_ON.sub(r"Rattle.\1.specs", module)
             if alias:
                 self.aliases[alias] = module
             for name in filter(None, map(str.strip, names.split(","))):
@@ -177,9 +180,9 @@ class Core:
     def type_named(self, crate, file, word):
         """The type or trait that a word of src/ names, by the `use` lines of Rust."""
         for line in re.findall(r"^use ([^;]*);", file.text, re.M):
-            owner = line.split("::")[0]
-            if owner in CRATES and re.search(r"\b%s\b" % word, line):
-                return self.source(owner, word)
+            owners = [name for name in line.split("::") if name in CRATES]
+            if owners and re.search(r"\b%s\b" % word, line):
+                return self.source(owners[-1], word)
         return self.source(crate, word)
 
     def cites(self, now):

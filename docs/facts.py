@@ -7,8 +7,9 @@ The numbers and names of conditions and refusals are those of one table, `Condit
 wherever a document, a script, a test or a vector says them; docs/SPECIFICATION.md, docs/REFUSALS.md, refusals.json of
 the Python package and tests/reference have each. The limits are those of `Limits` of sd_outside, the words of commands
 those of `Command`, `Forms` and the tools, and the members of files those of their tables. A name of code in a page for
-whoever reads the code (OF_CODE) stands in the code, and so does the code that LIBRARY.md and C.md show. Each link leads
-to a file that is there, and to a heading of it, and from docs/ to what a release has too.
+whoever reads the code (OF_CODE) stands in the code, and so does the code that LIBRARY.md and C.md show. The crates of
+whose calls LIBRARY.md has a table are handed on by sdjwt_lib. Each link leads to a file that is there, and to a heading
+of it, and from docs/ to what a release has too.
 """
 import json
 import re
@@ -212,6 +213,20 @@ def check_code():
                 yield f"{page} shows code that stands nowhere: {piece.strip().splitlines()[0]}"
 
 
+def check_handed_on():
+    """Whether sdjwt_lib hands on each crate of the first table of LIBRARY.md, in code, in contracts and in proofs."""
+    table = re.search(r"^\| Job \|.*?\n\n", text_of("docs/LIBRARY.md"), re.M | re.S)[0]
+    named = set(re.findall(r"\w+", table)) & {path.name for path in (TOP / "crates").iterdir()} - {"sdjwt_lib"}
+    handed_on = {
+        "src/lib.rt": r"^pub use (\w+);$",
+        "specs/Lib.antt": r"^pub use Rattle\.(\w+)\.specs as \1$",
+        "proofs/Lemmas.antt": r"^pub use Rattle\.(\w+)\.proofs as \1$",
+    }
+    for file, line in handed_on.items():
+        found = set(re.findall(line, text_of(f"crates/sdjwt_lib/{file}"), re.M))
+        yield from (f"{file} of sdjwt_lib does not hand on {name}" for name in sorted(named - found))
+
+
 def anchors(page):
     """The names by which links call the headings of a page."""
     text = re.sub(r"^```.*?^```", "", page.read_text(encoding="utf-8"), flags=re.M | re.S)
@@ -232,7 +247,8 @@ def check_links():
 
 
 def main():
-    checks = (check_numbers, check_limits, check_words, check_members, check_names, check_code, check_links)
+    checks = (check_numbers, check_limits, check_words, check_members, check_names, check_code, check_handed_on,
+              check_links)
     wrong = [line for check in checks for line in check()]
     counts = f"{len(rows())} numbers, {len(limits())} limits"
     print("\n".join(wrong) or f"documents, completions and manual pages agree with specs/: {counts}")

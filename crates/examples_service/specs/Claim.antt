@@ -1,8 +1,8 @@
 -- Not needed to believe the program's promises: what the service answers of a presentation.
 use Rattle.std.specs.Prelude.{◌≡◌, ℕ, Option}
-use Rattle.claim_tree.specs.Tree.{Text, Tree, get}
-use Rattle.verifier_core.specs.Verdicts.{IsAcceptedAs}
-use Rattle.verifier_core.specs.declared.policy.Policy.{Policy}
+use Rattle.sdjwt_lib.specs.claim_tree.Tree.{Text, Tree, get}
+use Rattle.sdjwt_lib.specs.verifier_core.Verdicts.{IsAcceptedAs}
+use Rattle.sdjwt_lib.specs.verifier_core.declared.policy.Policy.{Policy}
 
 -- the text is accepted under the policy at the moment, and the claim is the
 -- member of its processed payload under the name, or none

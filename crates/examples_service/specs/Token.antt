@@ -1,13 +1,13 @@
 -- Not needed to believe the program's promises: what the service issues.
 use Rattle.std.specs.Prelude.{List, [], None}
-use Rattle.claim_tree.specs.Tree.{Text, Tree}
-use Rattle.compact_form.specs.declared.parts.Parts.{Parts}
-use Rattle.compact_form.specs.Compact.{IsCompact}
-use Rattle.disclosure.specs.declared.digests.HashAlg.{HashAlg}
-use Rattle.hmac_sign.specs.Signatures.{Meaning}
-use Rattle.issuer_core.specs.Order.{Order}
-use Rattle.issuer_core.specs.Digests.{Maker}
-use Rattle.issuer_core.specs.Written.{IsIssued, IsLaidOut}
+use Rattle.sdjwt_lib.specs.claim_tree.Tree.{Text, Tree}
+use Rattle.sdjwt_lib.specs.compact_form.declared.parts.Parts.{Parts}
+use Rattle.sdjwt_lib.specs.compact_form.Compact.{IsCompact}
+use Rattle.sdjwt_lib.specs.disclosure.declared.digests.HashAlg.{HashAlg}
+use Rattle.sdjwt_lib.specs.hmac_sign.Signatures.{Meaning}
+use Rattle.sdjwt_lib.specs.issuer_core.Order.{Order}
+use Rattle.sdjwt_lib.specs.issuer_core.Digests.{Maker}
+use Rattle.sdjwt_lib.specs.issuer_core.Written.{IsIssued, IsLaidOut}
 
 -- the order that hides these places of a payload by SHA-256, and asks for nothing else
 abbrev pub order_for : Tree → List (List Text) → Order

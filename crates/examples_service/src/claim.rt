@@ -1,16 +1,16 @@
 // One claim of a presentation that is accepted.
 ghost use Rattle.std.specs.Prelude.{◌≡◌, IfOk, IfErr, option_map};
-ghost use Rattle.claim_tree.specs.Tree.{get};
-ghost use Rattle.claim_tree.specs.View.{tree_of};
-ghost use Rattle.compact_form.specs.Lowest.{IsLowest};
-ghost use Rattle.verifier_core.specs.Verdict.{Fails};
-ghost use Rattle.verifier_core.specs.Check.{OnFault};
+ghost use Rattle.sdjwt_lib.specs.claim_tree.Tree.{get};
+ghost use Rattle.sdjwt_lib.specs.claim_tree.View.{tree_of};
+ghost use Rattle.sdjwt_lib.specs.compact_form.Lowest.{IsLowest};
+ghost use Rattle.sdjwt_lib.specs.verifier_core.Verdict.{Fails};
+ghost use Rattle.sdjwt_lib.specs.verifier_core.Check.{OnFault};
 ghost use Rattle.examples_service.specs.Claim.{IsClaim};
 
-use claim_tree::Tree;
-use digest_index::Steps;
+use sdjwt_lib::claim_tree::Tree;
+use sdjwt_lib::digest_index::Steps;
+use sdjwt_lib::verifier_core::{Policy, VerifyError, verify_payload};
 use std::alloc::Global;
-use verifier_core::{Policy, VerifyError, verify_payload};
 
 /// The claim of this name in the processed payload of a presentation, which is
 /// verified under a policy at a moment in seconds since 1970. None where the

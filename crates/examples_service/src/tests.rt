@@ -1,12 +1,12 @@
 // The two calls of the service, over tokens that it issues itself.
 use crate::{claim_of, token_for};
-use claim_tree::{PathList, read, read_pointer, write};
-use hmac_sign::Hs256Key;
-use issuer_core::{IssueError, refusal_line};
-use sd_outside::TextBox;
+use sdjwt_lib::claim_tree::{PathList, read, read_pointer, write};
+use sdjwt_lib::hmac_sign::Hs256Key;
+use sdjwt_lib::issuer_core::{IssueError, refusal_line};
+use sdjwt_lib::sd_outside::TextBox;
+use sdjwt_lib::verifier_core::{VerifyError, fault_line, read_policy};
 use std::alloc::Global;
 use std::test::Fail;
-use verifier_core::{VerifyError, fault_line, read_policy};
 
 const PAYLOAD: &str =
     r#"{"iss":"https://tickets.example","exp":1900000000,"hall":"B","seat":{"row":7,"place":12}}"#;

@@ -1,24 +1,24 @@
 // The token of a payload, some places of which are hidden.
 ghost use Rattle.std.specs.Prelude.{◌≡◌, ◌≤◌, length, IfOk, IfErr, IsErrOf};
-ghost use Rattle.sd_outside.specs.Causes.{Rose};
-ghost use Rattle.sd_outside.specs.Limits.{issue_max, json_depth_max};
-ghost use Rattle.claim_tree.specs.Tree.{depth};
-ghost use Rattle.claim_tree.specs.View.{tree_of};
-ghost use Rattle.compact_form.specs.Lowest.{NoneApplies};
-ghost use Rattle.hmac_sign.specs.Agreement.{Agree};
-ghost use Rattle.issuer_core.specs.declared.errors.IssueError.{IssueError};
-ghost use Rattle.issuer_core.specs.Issue.{HasNoClash};
-ghost use Rattle.issuer_core.specs.IssueCalls.{IsNotIssued};
-ghost use Rattle.issuer_core.specs.OrderRefusals.{AppliesToOrder};
-ghost use Rattle.issuer_core.specs.Seed.{maker_of};
+ghost use Rattle.sdjwt_lib.specs.sd_outside.Causes.{Rose};
+ghost use Rattle.sdjwt_lib.specs.sd_outside.Limits.{issue_max, json_depth_max};
+ghost use Rattle.sdjwt_lib.specs.claim_tree.Tree.{depth};
+ghost use Rattle.sdjwt_lib.specs.claim_tree.View.{tree_of};
+ghost use Rattle.sdjwt_lib.specs.compact_form.Lowest.{NoneApplies};
+ghost use Rattle.sdjwt_lib.specs.hmac_sign.Agreement.{Agree};
+ghost use Rattle.sdjwt_lib.specs.issuer_core.declared.errors.IssueError.{IssueError};
+ghost use Rattle.sdjwt_lib.specs.issuer_core.Issue.{HasNoClash};
+ghost use Rattle.sdjwt_lib.specs.issuer_core.IssueCalls.{IsNotIssued};
+ghost use Rattle.sdjwt_lib.specs.issuer_core.OrderRefusals.{AppliesToOrder};
+ghost use Rattle.sdjwt_lib.specs.issuer_core.Seed.{maker_of};
 ghost use Rattle.examples_service.specs.Token.{order_for, IsTokenFor};
 
-use claim_tree::{PathList, Tree};
-use compact_form::print;
-use disclosure::HashAlg;
-use hmac_sign::Signer;
-use issuer_core::{DecoyList, IssueError, Order, issue_owned};
-use sd_outside::TextBox;
+use sdjwt_lib::claim_tree::{PathList, Tree};
+use sdjwt_lib::compact_form::print;
+use sdjwt_lib::disclosure::HashAlg;
+use sdjwt_lib::hmac_sign::Signer;
+use sdjwt_lib::issuer_core::{DecoyList, IssueError, Order, issue_owned};
+use sdjwt_lib::sd_outside::TextBox;
 use std::alloc::Global;
 
 /// The compact text of a new token for a payload, with each of these places

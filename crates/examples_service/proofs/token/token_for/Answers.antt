@@ -1,11 +1,11 @@
 -- The order of which this is known has no decoys.
 use Rattle.std.proofs.Common.{List, None, subst}
-use Rattle.claim_tree.specs.View.{tree_of}
-use Rattle.disclosure.specs.declared.digests.HashAlg.{HashAlg}
-use Rattle.issuer_core.specs.Issue.{HasNoClash}
-use Rattle.issuer_core.specs.Order.{Order}
-use Rattle.issuer_core.specs.Seed.{maker_of}
-use Rattle.issuer_core.specs.declared.order.Decoy.{Decoy}
+use Rattle.sdjwt_lib.specs.claim_tree.View.{tree_of}
+use Rattle.sdjwt_lib.specs.disclosure.declared.digests.HashAlg.{HashAlg}
+use Rattle.sdjwt_lib.specs.issuer_core.Issue.{HasNoClash}
+use Rattle.sdjwt_lib.specs.issuer_core.Order.{Order}
+use Rattle.sdjwt_lib.specs.issuer_core.Seed.{maker_of}
+use Rattle.sdjwt_lib.specs.issuer_core.declared.order.Decoy.{Decoy}
 use Rattle.examples_service.proofs.token.token_for.Goals as goal
 
 pub returns-clause-differ : goal.returns-clause-differ

@@ -4,8 +4,8 @@ use Rattle.holder_core.specs.Asked.{asked_by}
 use Rattle.holder_core.specs.Present.{IsNotPresented}
 use Rattle.holder_core.specs.declared.errors.PresentError.TheVariants.{Memory}
 use Rattle.holder_core.proofs.OtherRules.{not_presented_by}
-use Rattle.examples_service.proofs.EndToEnd.{never}
-use Rattle.examples_service.proofs.end_to_end.presented.Goals as goal
+use Rattle.sdjwt_lib.proofs.EndToEnd.{never}
+use Rattle.sdjwt_lib.proofs.end_to_end.presented.Goals as goal
 
 pub unreachable-requires : goal.unreachable-requires
 unreachable-requires g c =

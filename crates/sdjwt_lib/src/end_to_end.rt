@@ -20,7 +20,7 @@ ghost use Rattle.issuer_core.specs.Seed.{maker_of};
 ghost use Rattle.issuer_core.specs.declared.errors.IssueError.{IssueError};
 ghost use Rattle.sdjwt_cli.specs.PresentedValues.{AreShort};
 ghost use Rattle.sdjwt_cli.specs.Suits.{Suits, claims_for};
-ghost use Rattle.examples_service.specs.EndToEnd.{IsIssuedText, IsPresentedText};
+ghost use Rattle.sdjwt_lib.specs.EndToEnd.{IsIssuedText, IsPresentedText};
 
 use claim_tree::{Path, Tree};
 use compact_form::print;

@@ -1,3 +1,4 @@
 mod EndToEnd
+pub mod Lemmas
 mod OtherRules
 mod WorkedFiles

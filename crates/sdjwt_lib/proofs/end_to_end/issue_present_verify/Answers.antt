@@ -5,9 +5,9 @@ use Rattle.hmac_sign.specs.Hmac.{hs256_key, IsGood}
 use Rattle.issuer_core.specs.Order.{order_of}
 use Rattle.issuer_core.specs.Seed.{maker_of}
 use Rattle.issuer_core.proofs.OneToken.{issued_not_refused}
-use Rattle.examples_service.specs.EndToEnd.{IsIssuedText, IsPresentedText}
-use Rattle.examples_service.proofs.EndToEnd.{refuses_nothing, passes, found}
-use Rattle.examples_service.proofs.end_to_end.issue_present_verify.Goals as goal
+use Rattle.sdjwt_lib.specs.EndToEnd.{IsIssuedText, IsPresentedText}
+use Rattle.sdjwt_lib.proofs.EndToEnd.{refuses_nothing, passes, found}
+use Rattle.sdjwt_lib.proofs.end_to_end.issue_present_verify.Goals as goal
 
 pub presented-requires-clause-unrefused : goal.presented-requires-clause-unrefused
 presented-requires-clause-unrefused g c =

@@ -1,7 +1,7 @@
 use Rattle.std.proofs.Common.{rules}
 use Rattle.compact_form.specs.Lowest.{IsLowest}
 use Rattle.verifier_core.specs.Verdict.{Fails}
-use Rattle.examples_service.proofs.end_to_end.verified.Goals as goal
+use Rattle.sdjwt_lib.proofs.end_to_end.verified.Goals as goal
 
 pub unreachable-requires : goal.unreachable-requires
 unreachable-requires c =

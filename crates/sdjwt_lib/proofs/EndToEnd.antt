@@ -24,7 +24,7 @@ use Rattle.sdjwt_cli.specs.AnySigner.{key_signer}
 use Rattle.sdjwt_cli.specs.PresentedValues.{AcceptedBy, AreShort, IsShownAt, PresentedOverValues}
 use Rattle.sdjwt_cli.specs.Suits.{Suits, claims_for}
 use Rattle.sdjwt_cli.proofs.HeldIssued.{by_anyone}
-use Rattle.examples_service.specs.EndToEnd.{IsIssuedText, IsPresentedText}
+use Rattle.sdjwt_lib.specs.EndToEnd.{IsIssuedText, IsPresentedText}
 
 -- no count of faults rose that began and ended at none
 pub never : Rose 0 0 → ⊥

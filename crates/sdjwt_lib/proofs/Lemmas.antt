@@ -1,0 +1,22 @@
+-- The lemmas of each library, behind its name.
+pub use Rattle.b64url_text.proofs as b64url_text
+pub use Rattle.compact_form.proofs as compact_form
+pub use Rattle.claim_tree.proofs as claim_tree
+pub use Rattle.digest_index.proofs as digest_index
+pub use Rattle.hmac_sign.proofs as hmac_sign
+pub use Rattle.digest_sites.proofs as digest_sites
+pub use Rattle.marked_tree.proofs as marked_tree
+pub use Rattle.rebuild_core.proofs as rebuild_core
+pub use Rattle.selection_core.proofs as selection_core
+pub use Rattle.disclosure.proofs as disclosure
+pub use Rattle.jws_part.proofs as jws_part
+pub use Rattle.key_binding.proofs as key_binding
+pub use Rattle.json_form.proofs as json_form
+pub use Rattle.verifier_core.proofs as verifier_core
+pub use Rattle.cli_parts.proofs as cli_parts
+pub use Rattle.feed_core.proofs as feed_core
+pub use Rattle.holder_core.proofs as holder_core
+pub use Rattle.wallet_core.proofs as wallet_core
+pub use Rattle.issuer_core.proofs as issuer_core
+pub use Rattle.audit_core.proofs as audit_core
+pub use Rattle.sdjwt_cli.proofs as sdjwt_cli

@@ -1,0 +1,23 @@
+pub mod EndToEnd
+pub use Rattle.sd_outside.specs as sd_outside
+pub use Rattle.b64url_text.specs as b64url_text
+pub use Rattle.compact_form.specs as compact_form
+pub use Rattle.claim_tree.specs as claim_tree
+pub use Rattle.digest_index.specs as digest_index
+pub use Rattle.hmac_sign.specs as hmac_sign
+pub use Rattle.digest_sites.specs as digest_sites
+pub use Rattle.marked_tree.specs as marked_tree
+pub use Rattle.rebuild_core.specs as rebuild_core
+pub use Rattle.selection_core.specs as selection_core
+pub use Rattle.disclosure.specs as disclosure
+pub use Rattle.jws_part.specs as jws_part
+pub use Rattle.key_binding.specs as key_binding
+pub use Rattle.json_form.specs as json_form
+pub use Rattle.verifier_core.specs as verifier_core
+pub use Rattle.cli_parts.specs as cli_parts
+pub use Rattle.feed_core.specs as feed_core
+pub use Rattle.holder_core.specs as holder_core
+pub use Rattle.wallet_core.specs as wallet_core
+pub use Rattle.issuer_core.specs as issuer_core
+pub use Rattle.audit_core.specs as audit_core
+pub use Rattle.sdjwt_cli.specs as sdjwt_cli

@@ -1,0 +1,55 @@
+//! One crate to depend on: the libraries under their own names, and all three ends of a credential
+//! in one call.
+//!
+//! The line `your_service: sdjwt_lib` of `crates.txt` gives a program each crate of the table. In
+//! code, `verifier_core::verify` is written `sdjwt_lib::verifier_core::verify`. In contracts,
+//! `Rattle.verifier_core.specs.Verdict` is written `Rattle.sdjwt_lib.specs.verifier_core.Verdict`,
+//! and in proofs the lemmas of `Rattle.verifier_core.proofs` stand in
+//! `Rattle.sdjwt_lib.proofs.Lemmas.verifier_core`.
+//!
+//! | Crates | For |
+//! |---|---|
+//! | `verifier_core`, `feed_core` | to verify a presentation, or one on each line |
+//! | `issuer_core`, `audit_core` | to issue a token, or to say whether one is as ordered |
+//! | `holder_core`, `wallet_core` | to present a token, or the one that answers a query |
+//! | `selection_core` | to choose what is shown, and to ask the holder |
+//! | `hmac_sign`, `key_binding` | keys and signers, and what a caller says of signatures |
+//! | `compact_form`, `json_form` | the text of a token, and its limits |
+//! | `jws_part`, `disclosure` | its header and payload, and its disclosures |
+//! | `claim_tree`, `marked_tree` | JSON, and JSON that tells what each disclosure shows |
+//! | `digest_index`, `digest_sites`, `rebuild_core` | digests and what stands behind them |
+//! | `sd_outside`, `b64url_text` | texts and bytes, and where they come from and go |
+//! | `sdjwt_cli`, `cli_parts` | the commands of the program, and what is around them |
+//!
+//! [`issue_present_verify`] is all three ends one behind another: its contract is what the
+//! libraries promise together. `docs/LIBRARY.md` says which call is for what, and the crate
+//! `examples_service` is a program that names this crate alone.
+#![tactic(auto)]
+
+mod end_to_end;
+#[cfg(test)]
+mod end_to_end_tests;
+
+pub use audit_core;
+pub use b64url_text;
+pub use claim_tree;
+pub use cli_parts;
+pub use compact_form;
+pub use digest_index;
+pub use digest_sites;
+pub use disclosure;
+pub use end_to_end::{Holder, Issuer, issue_present_verify};
+pub use feed_core;
+pub use hmac_sign;
+pub use holder_core;
+pub use issuer_core;
+pub use json_form;
+pub use jws_part;
+pub use key_binding;
+pub use marked_tree;
+pub use rebuild_core;
+pub use sd_outside;
+pub use sdjwt_cli;
+pub use selection_core;
+pub use verifier_core;
+pub use wallet_core;
