@@ -1,10 +1,9 @@
 // Presenting where the caller checks the issuer's signature and makes the holder's, over the token
 // of RFC 9901 section 5.2 without its key binding token.
-ghost use Rattle.std.specs.Prelude.{◌≡◌, ◌<◌, length, IfOk};
 
 use crate::judge_tests::PRESENTED;
 use claim_tree::{Path, write};
-use compact_form::print;
+use compact_form::{JwtParts, Parts};
 use digest_index::Steps;
 use holder_core::{
     PresentError, Presentation, UnsignedPresentation, present_unsigned, read_unsigned_present,
@@ -51,7 +50,7 @@ fn presented(
 }
 
 // What is told of it. A question has the algorithm, and the lengths of the signature and of the
-// text that this is over; of a presentation stands here what comes behind the issuer's JWT.
+// text that this is over; of a presentation the disclosures are told.
 fn told(alloc: Global, order: &str, answer: Option<SignatureAnswer>) -> Result<TextBox, Fail> {
     match presented(alloc, order, answer)? {
         Ok(Presentation::AsksIssuer(question)) => {
@@ -60,17 +59,29 @@ fn told(alloc: Global, order: &str, answer: Option<SignatureAnswer>) -> Result<T
             Ok(TextBox::from_string(format!(in alloc; "asks {alg} {count} {length}")?))
         }
         Ok(Presentation::ToSign(unsigned)) => Ok(unsigned.binding.text(alloc)?),
-        Ok(Presentation::Presented(parts)) => behind_jwt(alloc, print(alloc, &parts)?.as_str()),
+        Ok(Presentation::Presented(parts)) => disclosures_of(alloc, &parts),
         Err(error) => Ok(refusal_line(alloc, &error)?),
     }
 }
 
-// What stands behind the first `~`.
-fn behind_jwt(alloc: Global, token: &str) -> Result<TextBox, Fail> {
-    match token.split_once('~') {
-        Some((_, shown)) => Ok(TextBox::make(alloc, shown)?),
-        None => Err("no disclosures".into()),
+// The disclosures of a presentation, each with a `~` behind it.
+fn disclosures_of(alloc: Global, parts: &Parts) -> Result<TextBox, Fail> {
+    let mut all = String::new(alloc);
+    for disclosure in parts.disclosures.elements() {
+        all.push_str(disclosure.as_str())?;
+        all.push_str("~")?;
     }
+    Ok(TextBox::from_string(all))
+}
+
+// The text of a JWT, where there is one.
+fn jwt_text(alloc: Global, jwt: Option<JwtParts>) -> Result<TextBox, Fail> {
+    let Some(jwt) = jwt else {
+        return Err("no key binding token".into());
+    };
+    let (protected, payload) = (jwt.protected.as_str(), jwt.payload.as_str());
+    let signature = jwt.signature.as_str();
+    Ok(TextBox::from_string(format!(in alloc; "{protected}.{payload}.{signature}")?))
 }
 
 #[test]
@@ -118,8 +129,9 @@ fn a_signature_makes_the_presentation(rt: HostRuntime) -> Result<(), Fail> {
     let payload = write(alloc, &unsigned.payload)?;
     assert!(rt; payload.as_str().contains(r#""cnf":{"jwk":{"crv":"P-256""#));
     let parts = unsigned.signed(alloc, &[7; 6]).map_err(|_| "too long")?;
-    let shown = behind_jwt(alloc, print(alloc, &parts)?.as_str())?;
-    let wanted = format!(in alloc; "{GIVEN_NAME}~{BINDING}.BwcHBwcH")?;
-    assert_eq!(rt; shown.as_str(), wanted.as_str());
+    let alone = format!(in alloc; "{GIVEN_NAME}~")?;
+    assert_eq!(rt; disclosures_of(alloc, &parts)?.as_str(), alone.as_str());
+    let wanted = format!(in alloc; "{BINDING}.BwcHBwcH")?;
+    assert_eq!(rt; jwt_text(alloc, parts.binding)?.as_str(), wanted.as_str());
     Ok(())
 }
