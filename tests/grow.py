@@ -502,7 +502,7 @@ def _spoil_clash(grower: Grower, recipe: Recipe, _now: int) -> None:
     for other in re.findall("<([0-9]+)>", json.dumps(holder["_sd"])):
         try:
             names.append(json.loads(recipe["disclosures"][int(other)])[1])
-        except (ValueError, IndexError, TypeError):
+        except (ValueError, IndexError, TypeError, KeyError):
             pass
     if names:
         try:
