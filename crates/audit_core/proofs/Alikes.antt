@@ -7,9 +7,9 @@ use Rattle.std.proofs.lemmas.List.Sums.{sum_by-cons}
 use Rattle.std.specs.Ordering.{match_ordering, is_lt}
 use Rattle.std.specs.Cmp.{both_ways}
 use Rattle.claim_tree.specs.Tree.{Text}
-use Rattle.claim_tree.specs.Lists.{In}
+use Rattle.sd_outside.specs.Lists.{In}
 use Rattle.claim_tree.specs.Path.{pointer_text}
-use Rattle.claim_tree.proofs.Lists.{bytes_refl, bytes_same, In-of_map}
+use Rattle.sd_outside.proofs.Lists.{bytes_refl, bytes_same, In-of_map}
 use Rattle.claim_tree.proofs.MapPlaces.{cmp, same_name, before_after, after_before}
 use Rattle.claim_tree.proofs.PointerTexts.{pointer_text-injective}
 use Rattle.digest_sites.specs.declared.site.SiteKind.{SiteKind}

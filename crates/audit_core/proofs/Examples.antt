@@ -7,10 +7,10 @@ use Rattle.json.specs.Print.{escape_byte}
 use Rattle.sha2.specs.Sha256.{compress, digest_bytes, first_words, hash_after, rounds, schedule, sha256}
 use Rattle.sd_outside.specs.Limits.{compact_max}
 use Rattle.b64url_text.specs.Base64url.{letters, bits, sixes, b64}
-use Rattle.claim_tree.specs.Lists.{StandsAt}
+use Rattle.sd_outside.specs.Lists.{StandsAt}
 use Rattle.claim_tree.specs.Tree.{Text, Tree, leaf, text, array, object, no_elements, element, no_members, member, IsOrdered, IsRanged}
 use Rattle.compact_form.specs.Compact.{compact}
-use Rattle.compact_form.specs.Lowest.{NoneApplies}
+use Rattle.refusals.specs.Lowest.{NoneApplies}
 use Rattle.compact_form.specs.declared.parts.Parts.{Parts}
 use Rattle.digest_sites.specs.Given.{Given}
 use Rattle.digest_sites.specs.Reserved.{sd_name, dots_name}

@@ -5,8 +5,8 @@ use Rattle.std.proofs.lemmas.Bool.{true≢false, not-true}
 use Rattle.std.proofs.lemmas.List.{length-append, length-map, map-append}
 use Rattle.std.proofs.lemmas.List.Elements.{filter-append}
 use Rattle.claim_tree.specs.Tree.{Text, Tree}
-use Rattle.claim_tree.specs.Lists.{In, StandsAt}
-use Rattle.claim_tree.proofs.Lists.{In-map, In-of_map}
+use Rattle.sd_outside.specs.Lists.{In, StandsAt}
+use Rattle.sd_outside.proofs.Lists.{In-map, In-of_map}
 use Rattle.digest_sites.specs.Given.{Given}
 use Rattle.digest_sites.specs.Sites.{Site, sites}
 use Rattle.digest_sites.specs.declared.site.Site as code

@@ -4,9 +4,9 @@ use Rattle.std.specs.Prelude.{bytes_eq}
 use Rattle.std.specs.List.{range_with_len}
 use Rattle.std.proofs.lemmas.List.{length-append, length-map}
 use Rattle.std.proofs.lemmas.List.FromFn.{length-map-range_with_len}
-use Rattle.claim_tree.specs.Lists.{In}
+use Rattle.sd_outside.specs.Lists.{In}
 use Rattle.claim_tree.specs.Tree.{Text, Tree}
-use Rattle.claim_tree.proofs.Lists.{In-At, In-append, In-left, In-of_map, bytes_refl, bytes_same, list_any-from, list_any-In}
+use Rattle.sd_outside.proofs.Lists.{In-At, In-append, In-left, In-of_map, bytes_refl, bytes_same, list_any-from, list_any-In}
 use Rattle.digest_sites.specs.Given.{Given}
 use Rattle.rebuild_core.specs.Reached.{given_digests, all_digests}
 use Rattle.issuer_core.specs.Decoys.{decoys_of}

@@ -3,7 +3,7 @@ use Rattle.std.proofs.Common.{◌≡◌, ℕ, suc, ◌+◌, List, [], ◌∷◌,
 use Rattle.std.specs.List.{AllZip}
 use Rattle.b64url_text.specs.Base64url.{AreBytes}
 use Rattle.b64url_text.proofs.Texts.{b64_utf8}
-use Rattle.claim_tree.specs.Lists.{StandsAt}
+use Rattle.sd_outside.specs.Lists.{StandsAt}
 use Rattle.claim_tree.specs.Tree.{Text, text, Tree, leaf, get}
 use Rattle.compact_form.specs.declared.parts.Parts.{Parts}
 use Rattle.digest_sites.specs.Given.{Given}

@@ -3,10 +3,10 @@ use Rattle.std.proofs.Common.{◌≡◌, ℕ, zero, suc, ◌+◌, ◌<◌, ◌�
 use Rattle.std.specs.Prelude.{bytes_eq}
 use Rattle.std.proofs.lemmas.List.{append-nil, length-map, take_all, drop_all, drop_more}
 use Rattle.claim_tree.specs.Tree.{Text, elements_len}
-use Rattle.claim_tree.specs.Lists.{In}
+use Rattle.sd_outside.specs.Lists.{In}
 use Rattle.claim_tree.specs.ListViews.{elements_of}
 use Rattle.claim_tree.specs.declared.tree.Tree as tree
-use Rattle.claim_tree.proofs.Lists.{At-In, At-get_or}
+use Rattle.sd_outside.proofs.Lists.{At-In, At-get_or}
 use Rattle.digest_sites.specs.Given.{Given}
 use Rattle.digest_sites.specs.GivenView.{given_of}
 use Rattle.digest_sites.specs.declared.given.Given as given

@@ -3,8 +3,8 @@ use Rattle.std.proofs.Common.{◌≡◌, ℕ, suc, ◌+◌, ◌≤◌, List, [],
 use Rattle.std.specs.Prelude.{bytes_eq, filter}
 use Rattle.std.proofs.lemmas.Bool.{true≢false}
 use Rattle.claim_tree.specs.Tree.{Text, Tree}
-use Rattle.claim_tree.specs.Lists.{In}
-use Rattle.claim_tree.proofs.Lists.{bytes_refl, bytes_same, In-map, list_any-from, list_any-In}
+use Rattle.sd_outside.specs.Lists.{In}
+use Rattle.sd_outside.proofs.Lists.{bytes_refl, bytes_same, In-map, list_any-from, list_any-In}
 use Rattle.digest_sites.specs.Given.{Given}
 use Rattle.marked_tree.proofs.Sums.{sum_of}
 use Rattle.rebuild_core.specs.Reached.{OwnedSite, all_sites, all_digests, given_digests}

@@ -6,7 +6,7 @@ use Rattle.claim_tree.specs.Tree.{Text, Members, no_members, member}
 use Rattle.claim_tree.specs.View.{tree_of}
 use Rattle.claim_tree.specs.ListViews.{members_of}
 use Rattle.claim_tree.proofs.Walks.{Named}
-use Rattle.compact_form.specs.Lowest.{NoneApplies}
+use Rattle.refusals.specs.Lowest.{NoneApplies}
 use Rattle.digest_index.proofs.Positions.{bytes_eq-flip}
 use Rattle.issuer_core.specs.declared.errors.IssueError.TheVariants.{TooManyDecoys}
 use Rattle.issuer_core.specs.Decoys.{decoys_of}

@@ -6,7 +6,7 @@ use Rattle.std.specs.Ordering.{int_eq}
 use Rattle.std.proofs.lemmas.Bool.Decides.{Decides-int_eq, Decides-eqb}
 use Rattle.std.proofs.lemmas.Bool.{and_parts, and_from}
 use Rattle.claim_tree.specs.Tree.{Leaf, null, flag, whole, text}
-use Rattle.claim_tree.proofs.Lists.{bytes_refl, bytes_same}
+use Rattle.sd_outside.proofs.Lists.{bytes_refl, bytes_same}
 use Rattle.marked_tree.specs.Marked.{Marked, marked_leaf, marked_array, marked_object, MarkedElements, no_marked_elements, marked_element, MarkedMembers, no_marked_members, marked_member}
 use Rattle.audit_core.specs.SameMarked.{same_flag, same_leaf, same_mark, same_marked, same_elements, same_members}
 

@@ -5,7 +5,7 @@ use Rattle.std.specs.Ordering.{is_lt, nat_cmp}
 use Rattle.std.specs.Cmp.Lexicographic.{slice_cmp}
 use Rattle.std.proofs.lemmas.Bool.{and_parts, and_from}
 use Rattle.claim_tree.specs.Tree.{Text, Tree, leaf, null, flag, whole, text, array, object, Elements, no_elements, element, IsBefore}
-use Rattle.claim_tree.specs.Lists.{In}
+use Rattle.sd_outside.specs.Lists.{In}
 use Rattle.digest_sites.specs.Given.{Given}
 use Rattle.claim_tree.proofs.EveryMembers.{each_is, is_each}
 use Rattle.claim_tree.proofs.MapPlaces.{before_through, is_less}

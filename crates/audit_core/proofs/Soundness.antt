@@ -1,8 +1,8 @@
 -- Where no condition of 14 to 21 fails, each digest stands once, and those of the disclosures are among them.
 use Rattle.std.proofs.Common.{◌≡◌, ◌≢◌, ℕ, suc, List, [], ◌∷◌, ◌++◌, map, Bool, true, inl, inr, refl, sym, ap, ap₂, subst, arith, if◌then◌else◌}
 use Rattle.claim_tree.specs.Tree.{Text, Tree}
-use Rattle.claim_tree.specs.Lists.{In, Repeats, AtNone}
-use Rattle.claim_tree.proofs.Lists.{In-At, At-In, In-of_map}
+use Rattle.sd_outside.specs.Lists.{In, Repeats, AtNone}
+use Rattle.sd_outside.proofs.Lists.{In-At, At-In, In-of_map}
 use Rattle.digest_sites.specs.Given.{Given}
 use Rattle.digest_sites.specs.Sites.{sites}
 use Rattle.rebuild_core.specs.Reached.{payload, value_of, OwnedSite, owned_site, is_reached, value_sites, met, all_sites, owned_digests, all_digests, given_digests}

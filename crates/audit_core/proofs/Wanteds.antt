@@ -15,7 +15,7 @@ use Rattle.sd_outside.specs.Limits.{count_max}
 use Rattle.std.specs.Cmp.{both_ways}
 use Rattle.claim_tree.specs.Tree.{Text, Tree, leaf, array, object, elements_len}
 use Rattle.claim_tree.specs.Path.{escaped_byte, escaped, pointer_text, tree_at}
-use Rattle.claim_tree.proofs.Lists.{bytes_same, bytes_refl}
+use Rattle.sd_outside.proofs.Lists.{bytes_same, bytes_refl}
 use Rattle.claim_tree.proofs.PointerTexts.{pointer_text-injective}
 use Rattle.digest_sites.specs.declared.site.SiteKind.TheVariants.{Member, Element}
 use Rattle.marked_tree.specs.Paths.{Path, same_path}

@@ -1,8 +1,8 @@
 -- Why a token is not what an order asks for: the first that applies of what refuses it.
 use Rattle.std.specs.Prelude.{◌≡◌, ℕ, List}
 use Rattle.claim_tree.specs.Tree.{Text, Tree}
-use Rattle.compact_form.specs.Lowest.{NoneApplies}
-use Rattle.compact_form.specs.declared.fault.Fault.{Fault}
+use Rattle.refusals.specs.Lowest.{NoneApplies}
+use Rattle.refusals.specs.declared.fault.Fault.{Fault}
 use Rattle.digest_sites.specs.Given.{Given}
 use Rattle.hmac_sign.specs.Signatures.{Meaning}
 use Rattle.json_form.specs.Token.{IsToken, IsTextRefused}

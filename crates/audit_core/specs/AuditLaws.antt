@@ -4,7 +4,7 @@ use Rattle.std.specs.Str.{IsUtf8}
 use Rattle.b64url_text.specs.Base64url.{AreBytes}
 use Rattle.claim_tree.specs.Tree.{Text, IsOrdered}
 use Rattle.compact_form.specs.Compact.{compact}
-use Rattle.compact_form.specs.Lowest.{NoneApplies}
+use Rattle.refusals.specs.Lowest.{NoneApplies}
 use Rattle.compact_form.specs.declared.parts.Parts.{Parts}
 use Rattle.hmac_sign.specs.Algs.{alg_text}
 use Rattle.hmac_sign.specs.Hmac.{AlgKey, IsGood}

@@ -1,11 +1,11 @@
 -- The line that tells why a token is not what an order asks for.
 use Rattle.std.specs.Prelude.{ℕ, zero, suc, Option, None, Some}
 use Rattle.claim_tree.specs.Tree.{Text}
-use Rattle.compact_form.specs.declared.fault.Place.{Place}
-use Rattle.compact_form.specs.declared.fault.Place.TheVariants.{Nowhere, At}
-use Rattle.compact_form.specs.declared.refusal.Refusal.{Refusal}
-use Rattle.compact_form.specs.Faults.{failed_of}
-use Rattle.compact_form.specs.RefusedText.{place_text, told_text}
+use Rattle.refusals.specs.declared.fault.Place.{Place}
+use Rattle.refusals.specs.declared.fault.Place.TheVariants.{Nowhere, At}
+use Rattle.refusals.specs.declared.refusal.Refusal.{Refusal}
+use Rattle.refusals.specs.Faults.{failed_of}
+use Rattle.refusals.specs.RefusedText.{place_text, told_text}
 use Rattle.audit_core.specs.declared.errors.AuditError.{AuditError}
 use Rattle.audit_core.specs.declared.errors.AuditError.TheVariants.{Memory, Order as OnOrder, Token as OnCondition, Part}
 

@@ -5,7 +5,7 @@ use Rattle.std.specs.List.{AllZip, count_by, list_any}
 use Rattle.b64url_text.specs.Base64url.{b64, Decodes}
 use Rattle.claim_tree.specs.Tree.{Text, Tree, leaf, text, array, object, elements_len, no_members, get}
 use Rattle.claim_tree.specs.JsonText.{json_text}
-use Rattle.claim_tree.specs.Lists.{In, Repeats, AtNone}
+use Rattle.sd_outside.specs.Lists.{In, Repeats, AtNone}
 use Rattle.claim_tree.specs.Path.{tree_at}
 use Rattle.compact_form.specs.declared.parts.Parts.{Parts}
 use Rattle.digest_sites.specs.Given.{Given}

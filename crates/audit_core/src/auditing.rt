@@ -3,7 +3,7 @@ ghost use Rattle.std.specs.Prelude.{◌≡◌, ◌≤◌, ℕ, List, length, OnO
 ghost use Rattle.sd_outside.specs.Limits.{count_max, json_depth_max};
 ghost use Rattle.claim_tree.specs.Tree.{Tree as SeenTree, depth as depth_of};
 ghost use Rattle.claim_tree.specs.View.{tree_of};
-ghost use Rattle.compact_form.specs.Lowest.{NoneApplies};
+ghost use Rattle.refusals.specs.Lowest.{NoneApplies};
 ghost use Rattle.digest_sites.specs.Given.{Given as SeenGiven};
 ghost use Rattle.marked_tree.specs.Paths.{Path, is_among};
 ghost use Rattle.rebuild_core.specs.Answer.{IsPayload, ValuesShallow};

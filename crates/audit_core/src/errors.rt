@@ -1,5 +1,5 @@
 // What keeps an audit from its answer.
-use compact_form::Fault;
+use refusals::Fault;
 use sd_outside::NoMemory;
 
 /// Why a token does not pass an audit. Of what refuses it the first is answered.

@@ -3,7 +3,7 @@ ghost use Rattle.std.specs.Prelude.{◌≡◌, IfOk};
 ghost use Rattle.audit_core.specs.AuditRefusal.{audit_place, audit_refusal, audit_refusal_text, part_refusal};
 
 use crate::AuditError;
-use compact_form::{Place, Refusal, placed_line};
+use refusals::{Place, Refusal, placed_line};
 use sd_outside::{NoMemory, TextBox};
 use std::alloc::Global;
 

@@ -2,8 +2,8 @@
 ghost use Rattle.std.specs.Prelude.{IfOk};
 ghost use Rattle.json_form.specs.Printable.{IsPrintable};
 
-use compact_form::JsonPlace;
 use json_form::{JsonFormError, Token, parse_json, print_flat, print_general, read_token};
+use refusals::JsonPlace;
 use std::alloc::Global;
 use std::test::Fail;
 

@@ -5,7 +5,7 @@ use Rattle.std.specs.List.{list_any}
 use Rattle.std.specs.Option.{is_some}
 use Rattle.claim_tree.specs.Tree.{Text, Leaf, Tree, leaf, array, object, Elements, no_elements, element, element_at, Members, no_members, member, member_named}
 use Rattle.claim_tree.specs.Kept.{kept, kept_elements, kept_members}
-use Rattle.claim_tree.proofs.Lists.{bytes_same, bytes_refl}
+use Rattle.sd_outside.proofs.Lists.{bytes_same, bytes_refl}
 
 -- ---- what may be there, under a function
 

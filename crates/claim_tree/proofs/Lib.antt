@@ -1,5 +1,4 @@
 pub mod Counting
-pub mod Lists
 pub mod TextElements
 pub mod Views
 pub mod MapPlaces

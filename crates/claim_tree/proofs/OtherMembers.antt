@@ -6,7 +6,7 @@ use Rattle.std.proofs.lemmas.Map.Text.{is_eq-slice_cmp}
 use Rattle.std.proofs.lemmas.Slice.Eq.{bytes_eq-Decides}
 use Rattle.claim_tree.specs.Tree.{Text, Tree, depth, Members, no_members, member, members_depth, MembersRanged, inserted, member_named}
 use Rattle.claim_tree.specs.Removed.{removed}
-use Rattle.claim_tree.proofs.Lists.{bytes_refl}
+use Rattle.sd_outside.proofs.Lists.{bytes_refl}
 use Rattle.claim_tree.proofs.MapPlaces.{cmp, of_either}
 
 -- names in an order are one exactly where they tie

@@ -5,7 +5,7 @@ use Rattle.std.specs.Cmp.Lexicographic.{pointwise}
 use Rattle.std.proofs.lemmas.Bool.{and_parts}
 use Rattle.claim_tree.specs.Tree.{Text, Tree}
 use Rattle.claim_tree.specs.Path.{is_front, stepped, tree_at}
-use Rattle.claim_tree.proofs.Lists.{bytes_same}
+use Rattle.sd_outside.proofs.Lists.{bytes_same}
 
 through : (o : Option Tree) (f p r : List Text) → ((u : Tree) → tree_at u p ≡ option_and_then (λ v. tree_at v r) (tree_at u f))
     → option_and_then (λ u. tree_at u p) o ≡ option_and_then (λ v. tree_at v r) (option_and_then (λ u. tree_at u f) o)

@@ -4,7 +4,7 @@ use Rattle.std.specs.Prelude.{slice_range, slice_get}
 use Rattle.std.specs.Prelude.{nat_eq}
 use Rattle.std.specs.List.{flat_map, starts_with}
 use Rattle.claim_tree.specs.Path.{is_front}
-use Rattle.claim_tree.proofs.Lists.{bytes_same, bytes_refl}
+use Rattle.sd_outside.proofs.Lists.{bytes_same, bytes_refl}
 use Rattle.claim_tree.proofs.SamePaths.{path_same, path_refl}
 use Rattle.std.specs.Str.{IsCharBoundary}
 use Rattle.std.specs.Cmp.{both_ways}

@@ -3,7 +3,7 @@ use Rattle.std.proofs.Common.{◌≡◌, List, [], ◌∷◌, true, bytes_eq, re
 use Rattle.std.specs.Cmp.Lexicographic.{pointwise}
 use Rattle.std.proofs.lemmas.Bool.{and_parts, and_from}
 use Rattle.claim_tree.specs.Tree.{Text}
-use Rattle.claim_tree.proofs.Lists.{bytes_same, bytes_refl}
+use Rattle.sd_outside.proofs.Lists.{bytes_same, bytes_refl}
 
 pub path_same : (p q : List Text) → pointwise bytes_eq p q ≡ true → p ≡ q
 path_same [] [] h = refl

@@ -2,7 +2,6 @@ pub mod Tree
 pub mod Everywhere
 pub mod EveryMember
 pub mod Removed
-pub mod Lists
 pub mod View
 pub mod JsonText
 pub mod Kept

@@ -1,7 +1,7 @@
 -- A command has one reply, where there is one line of each kind and no two kinds apply.
 use Rattle.std.proofs.Common.{◌≡◌, ◌≢◌, ℕ, List, ap, sym, ◌∙◌}
 use Rattle.claim_tree.specs.declared.file_fault.FileFault.{FileFault}
-use Rattle.compact_form.specs.declared.fault.Fault.{Fault}
+use Rattle.refusals.specs.declared.fault.Fault.{Fault}
 use Rattle.cli_parts.specs.Lines.{refusal, unreadable_line}
 use Rattle.cli_parts.specs.Replies.{Reply, Replies, gives, refuses, unreadable}
 use Rattle.cli_parts.specs.Telling.{TellsFault, TellsFileFault}

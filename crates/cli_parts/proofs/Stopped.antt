@@ -1,6 +1,6 @@
 -- What holds of the line of a stop, by the fault that it tells.
 use Rattle.std.proofs.Common.{◌≡◌, ℕ, List, Result, Ok, Err, String, Global, IfOk, IfErr, string_bytes, refl, sym, subst}
-use Rattle.compact_form.specs.declared.fault.Fault.{Fault}
+use Rattle.refusals.specs.declared.fault.Fault.{Fault}
 use Rattle.cli_parts.specs.Lines.{refusal}
 use Rattle.cli_parts.specs.Stops.{OnRefused}
 use Rattle.cli_parts.specs.Telling.{TellsFault}

@@ -5,7 +5,7 @@ use Rattle.sd_outside.specs.Causes.{Rose, AppendsPrefix}
 use Rattle.sd_outside.specs.Limits.{file_max}
 use Rattle.sd_outside.specs.declared.status.Status.{Status}
 use Rattle.sd_outside.specs.declared.status.Status.TheVariants.{Done, Refused, Usage, Unread, Unwritten, Memory, Unreadable}
-use Rattle.claim_tree.specs.Lists.{StandsAt}
+use Rattle.sd_outside.specs.Lists.{StandsAt}
 use Rattle.cli_parts.specs.Lines.{line, unread_text}
 use Rattle.cli_parts.specs.Outside.{Outside, Tells}
 use Rattle.cli_parts.specs.Replies.{Reply, gives, refuses, unreadable}

@@ -8,7 +8,7 @@ ghost use Rattle.cli_parts.specs.declared.stop.Stop.TheVariants.{Memory};
 
 use crate::lines::{refusal_line, unreadable_line};
 use claim_tree::FileFault;
-use compact_form::Fault;
+use refusals::Fault;
 use sd_outside::NoMemory;
 use std::alloc::Global;
 

@@ -1,19 +1,11 @@
 -- Worked values, by the definitions.
 use Rattle.std.proofs.Common.{◌≡◌, List, ℕ, [], ◌∷◌, Option, None, Some, true, false, codes, refl, arith}
 use Rattle.b64url_text.specs.Base64url.{letters, is_letter, IsWord}
-use Rattle.std.specs.Fmt.{digits}
 use Rattle.compact_form.specs.declared.field.Field.TheVariants.{Protected, Signature, Piece, BindingSignature}
 use Rattle.compact_form.specs.declared.parts.JwtParts.{JwtParts}
 use Rattle.compact_form.specs.declared.parts.Parts.{Parts}
 use Rattle.compact_form.specs.Compact.{hashed, compact, HasWords, IsCompact, IsMisformedAt}
 use Rattle.compact_form.specs.Trim.{trimmed}
-use Rattle.compact_form.specs.declared.condition.Condition.{Condition}
-use Rattle.compact_form.specs.declared.fault.JsonPlace.{JsonPlace}
-use Rattle.compact_form.specs.declared.fault.Part.{Part}
-use Rattle.compact_form.specs.declared.fault.Place.TheVariants.{Json}
-use Rattle.compact_form.specs.Faults.{fault_at, unplaced, placed}
-use Rattle.compact_form.specs.declared.refusal.Refusal.{Refusal}
-use Rattle.compact_form.specs.RefusedText.{refused_text, fault_text}
 use Rattle.compact_form.proofs.Stops.{refused_at_byte, refused_at_end}
 
 abbrev jwt_of : List ℕ → List ℕ → List ℕ → JwtParts
@@ -90,21 +82,3 @@ padded = refused_at_byte (codes "a.b.c~d=~") 7 (Piece, true) (omega arith) refl 
 
 trimmed_at_both_ends : trimmed (codes " a.b.c~ \n") ≡ codes "a.b.c~"
 trimmed_at_both_ends = refl
-
--- ---- lines
-
-no_place : fault_text (unplaced Condition.Expired) ≡ codes "refused 25 expired"
-unfolding digits
-no_place = refl
-
-a_place : fault_text (placed Condition.ClaimMissing 10) ≡ codes "refused 23 claimMissing at 10"
-unfolding digits
-a_place = refl
-
-a_member : fault_text (fault_at Condition.Form (Json (JsonPlace.Missing Part.KbJwt))) ≡ codes "refused 2 form at missing kb_jwt"
-unfolding digits
-a_member = refl
-
-a_refusal : refused_text Refusal.FeedTooLong None ≡ codes "refused 87 feedTooLong"
-unfolding digits
-a_refusal = refl

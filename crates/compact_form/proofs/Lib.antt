@@ -15,5 +15,3 @@ pub mod Printed
 pub mod Trimmed
 pub mod Examples
 mod NextPieces
-pub mod Numbers
-pub mod Lowest

@@ -1,10 +1,10 @@
 -- A text is read or refused, in one way.
 use Rattle.std.proofs.Common.{◌≡◌, ℕ, ◌<◌, ◌≤◌, Bool, true, false, List, length, ap, ◌∙◌, sym, arith}
 use Rattle.sd_outside.specs.Limits.{count_max}
-use Rattle.compact_form.specs.declared.condition.Condition.{Condition}
-use Rattle.compact_form.specs.Condition.{number_of}
-use Rattle.compact_form.specs.Faults.{fault_number, unplaced, placed}
-use Rattle.compact_form.specs.declared.fault.Fault.{Fault}
+use Rattle.refusals.specs.declared.condition.Condition.{Condition}
+use Rattle.refusals.specs.Condition.{number_of}
+use Rattle.refusals.specs.Faults.{fault_number, unplaced, placed}
+use Rattle.refusals.specs.declared.fault.Fault.{Fault}
 use Rattle.compact_form.specs.declared.parts.Parts.{Parts}
 use Rattle.compact_form.specs.Compact.{IsCompact, IsMisformedAt}
 use Rattle.compact_form.specs.Trim.{trimmed, is_too_long}

@@ -2,10 +2,10 @@
 -- from a file: conditions 1 to 3 of a verifier, and its parts.
 use Rattle.std.specs.Prelude.{◌≡◌, ◌<◌, ℕ, true, List, length}
 use Rattle.sd_outside.specs.Limits.{count_max}
-use Rattle.compact_form.specs.declared.condition.Condition.{Condition}
-use Rattle.compact_form.specs.Faults.{fault_number, unplaced, placed}
-use Rattle.compact_form.specs.Lowest.{IsLowestBy, NoneApplies}
-use Rattle.compact_form.specs.declared.fault.Fault.{Fault}
+use Rattle.refusals.specs.declared.condition.Condition.{Condition}
+use Rattle.refusals.specs.Faults.{fault_number, unplaced, placed}
+use Rattle.refusals.specs.Lowest.{IsLowestBy, NoneApplies}
+use Rattle.refusals.specs.declared.fault.Fault.{Fault}
 use Rattle.compact_form.specs.declared.parts.Parts.{Parts}
 use Rattle.compact_form.specs.Compact.{IsCompact, IsMisformedAt}
 use Rattle.compact_form.specs.Trim.{trimmed, is_too_long}

@@ -3,12 +3,4 @@ pub mod Trim
 pub mod CompactToken
 pub mod Views
 pub mod Reading
-pub mod Condition
-pub mod Numbered
-pub mod Faults
-pub mod Lowest
-pub mod PartWords
-pub mod Refusal
-pub mod RefusedText
-pub mod Passing
 pub mod JwtCalls

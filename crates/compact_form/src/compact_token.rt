@@ -3,7 +3,8 @@ ghost use Rattle.std.specs.Prelude.{◌≡◌, IfOk, IfErr};
 ghost use Rattle.compact_form.specs.Trim.{trimmed, is_json as json_test, is_too_long as too_long_test};
 ghost use Rattle.compact_form.specs.CompactToken.{IsCompactRefused, ReadsCompact};
 
-use crate::{At, COMPACT_MAX, COUNT_MAX, Condition, FILE_MAX, Fault, Place, View, trim};
+use crate::{At, COMPACT_MAX, COUNT_MAX, FILE_MAX, View, trim};
+use refusals::{Condition, Fault, Place};
 
 /// Whether a text begins with `{`, and so is to be a JSON serialization (RFC 9901 section 8).
 pub fn is_json(text: &[u8]) -> bool

@@ -1,13 +1,10 @@
 //! What the definitions of the compact form say together. Each law holds for every value.
 ghost use Rattle.std.specs.Prelude.{◌≡◌, ◌≤◌, ℕ, List, length};
-ghost use Rattle.compact_form.specs.declared.fault.Fault.{Fault};
+ghost use Rattle.refusals.specs.declared.fault.Fault.{Fault};
 ghost use Rattle.sd_outside.specs.Limits.{compact_max, count_max};
 ghost use Rattle.compact_form.specs.declared.parts.Parts.{Parts};
 ghost use Rattle.compact_form.specs.Compact.{compact, hashed, AreWords, IsCompact, IsMisformedAt, IsStop};
 ghost use Rattle.compact_form.specs.JwtCalls.{IsUpToLastTilde};
-ghost use Rattle.compact_form.specs.declared.condition.Condition.{Condition};
-ghost use Rattle.compact_form.specs.Condition.{number_of};
-ghost use Rattle.compact_form.specs.Faults.{fault_at, failed_of};
 ghost use Rattle.compact_form.specs.CompactToken.{IsCompactRefused, ReadsCompact};
 
 /// A text is the spelling of at most one value of parts.
@@ -49,11 +46,4 @@ pub fn one_verdict()
         → IsCompactRefused text g → f ≡ g }
     ensures one_value { (text : List ℕ) (p q : Parts) → ReadsCompact text p → ReadsCompact text q
         → p ≡ q }
-{}
-
-/// A condition has a number of its own, and a fault is that of one condition at one place.
-pub fn one_condition()
-    ensures one { (condition other : Condition) → number_of condition ≡ number_of other
-        → condition ≡ other }
-    ensures fault { (fault : Fault) → fault ≡ fault_at (failed_of fault) fault.place }
 {}

@@ -7,39 +7,28 @@
 //! its form. [`print`] writes parts as the text that [`parse`] reads, [`hashed_text`]
 //! as much of it as a key binding token hashes, and [`is_longer_than`] says without
 //! it how long it is. [`read_jwt`] and [`print_jwt`] are for a JWT that stands alone.
-//!
-//! A [`Condition`] is what a token has to meet, a [`Refusal`] whatever is refused, and
-//! [`refused_line`] the line that tells of it.
 #![tactic(auto)]
 
 mod blanks;
 mod compact_token;
-mod condition;
-mod fault;
 mod field;
 mod form;
 mod jwt_reading;
 pub mod laws;
 mod lengths;
 mod limits;
-mod lines;
 mod parts;
 mod reader;
-mod refusal;
 mod spelling;
 mod view;
 
 pub use blanks::trim;
 pub use compact_token::{is_json, read_view};
-pub use condition::Condition;
-pub use fault::{Fault, JsonPlace, Part, Place};
 pub use form::{FormError, check, parse};
 pub use jwt_reading::read_jwt;
 pub use lengths::is_longer_than;
 pub use limits::{COMPACT_MAX, COUNT_MAX, FILE_MAX, ISSUE_MAX};
-pub use lines::{fault_line, placed_line, refused_line};
 pub use parts::{JwtParts, Parts};
 pub use reader::At;
-pub use refusal::Refusal;
 pub use spelling::{hashed_text, print, print_jwt};
 pub use view::{JwtView, Pieces, View};

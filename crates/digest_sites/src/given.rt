@@ -1,6 +1,6 @@
 // The disclosures that came with a token, each with its digest.
 ghost use Rattle.std.specs.Prelude.{◌≡◌, ◌≤◌, [], ◌∷◌, ◌++◌, map, length, IfOk, OnOk, OnErr, MatchOption, option_map, slice_get};
-ghost use Rattle.claim_tree.specs.Lists.{StandsAt};
+ghost use Rattle.sd_outside.specs.Lists.{StandsAt};
 ghost use Rattle.claim_tree.specs.View.{tree_of};
 ghost use Rattle.digest_sites.specs.Given.{Given as Seen};
 ghost use Rattle.digest_sites.specs.GivenView.{given_of, emptied};

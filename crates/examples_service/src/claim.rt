@@ -2,7 +2,7 @@
 ghost use Rattle.std.specs.Prelude.{◌≡◌, IfOk, IfErr, option_map};
 ghost use Rattle.sdjwt_lib.specs.claim_tree.Tree.{get};
 ghost use Rattle.sdjwt_lib.specs.claim_tree.View.{tree_of};
-ghost use Rattle.sdjwt_lib.specs.compact_form.Lowest.{IsLowest};
+ghost use Rattle.sdjwt_lib.specs.refusals.Lowest.{IsLowest};
 ghost use Rattle.sdjwt_lib.specs.verifier_core.Verdict.{Fails};
 ghost use Rattle.sdjwt_lib.specs.verifier_core.Check.{OnFault};
 ghost use Rattle.examples_service.specs.Claim.{IsClaim};

@@ -4,7 +4,7 @@ ghost use Rattle.sdjwt_lib.specs.sd_outside.Causes.{Rose};
 ghost use Rattle.sdjwt_lib.specs.sd_outside.Limits.{issue_max, json_depth_max};
 ghost use Rattle.sdjwt_lib.specs.claim_tree.Tree.{depth};
 ghost use Rattle.sdjwt_lib.specs.claim_tree.View.{tree_of};
-ghost use Rattle.sdjwt_lib.specs.compact_form.Lowest.{NoneApplies};
+ghost use Rattle.sdjwt_lib.specs.refusals.Lowest.{NoneApplies};
 ghost use Rattle.sdjwt_lib.specs.hmac_sign.Agreement.{Agree};
 ghost use Rattle.sdjwt_lib.specs.issuer_core.declared.errors.IssueError.{IssueError};
 ghost use Rattle.sdjwt_lib.specs.issuer_core.Issue.{HasNoClash};

@@ -3,15 +3,15 @@ use Rattle.std.proofs.Common.{◌≡◌, ◌++◌, ℕ, ◌<◌, List, length, r
 use Rattle.std.specs.Prelude.{codes}
 use Rattle.sd_outside.specs.Limits.{file_max}
 use Rattle.claim_tree.specs.JsonText.{json_text}
-use Rattle.compact_form.specs.declared.condition.Condition.{Condition}
-use Rattle.compact_form.specs.declared.fault.Fault.{Fault}
-use Rattle.compact_form.specs.Faults.{unplaced}
-use Rattle.compact_form.specs.Lowest.{IsLowest}
+use Rattle.refusals.specs.declared.condition.Condition.{Condition}
+use Rattle.refusals.specs.declared.fault.Fault.{Fault}
+use Rattle.refusals.specs.Faults.{unplaced}
+use Rattle.refusals.specs.Lowest.{IsLowest}
 use Rattle.json_form.proofs.Tokens.{refused_long}
 use Rattle.claim_tree.specs.Tree.{Tree}
 use Rattle.marked_tree.specs.Marked.{Marked, strip}
 use Rattle.verifier_core.specs.declared.policy.Policy.{Policy}
-use Rattle.compact_form.specs.RefusedText.{fault_text}
+use Rattle.refusals.specs.RefusedText.{fault_text}
 use Rattle.verifier_core.specs.Verdict.{Fails, demands_of}
 use Rattle.verifier_core.specs.Verdicts.{IsAcceptedAs}
 use Rattle.verifier_core.proofs.Verdicts.{file_lowest}

@@ -4,8 +4,8 @@ use Rattle.std.specs.Fmt.{digits}
 use Rattle.sd_outside.specs.Causes.{Rose}
 use Rattle.sd_outside.specs.declared.status.Status.{Status}
 use Rattle.sd_outside.specs.declared.status.Status.TheVariants as status
-use Rattle.compact_form.specs.declared.refusal.Refusal.{Refusal}
-use Rattle.compact_form.specs.RefusedText.{refused_text}
+use Rattle.refusals.specs.declared.refusal.Refusal.{Refusal}
+use Rattle.refusals.specs.RefusedText.{refused_text}
 use Rattle.cli_parts.specs.Finishing.{TellsMemory, TellsStop}
 use Rattle.cli_parts.specs.Lines.{line, unread_text}
 use Rattle.cli_parts.specs.Outside.{Stream, Tells}

@@ -5,8 +5,8 @@ use Rattle.sd_outside.specs.Limits.{feed_max}
 use Rattle.sd_outside.specs.Causes.{Rose}
 use Rattle.sd_outside.specs.declared.status.Status.{Status}
 use Rattle.sd_outside.specs.declared.status.Status.TheVariants.{Done, Refused, Usage, Unread, Unwritten, Memory, Unreadable}
-use Rattle.compact_form.specs.declared.refusal.Refusal.{Refusal}
-use Rattle.compact_form.specs.RefusedText.{refused_text}
+use Rattle.refusals.specs.declared.refusal.Refusal.{Refusal}
+use Rattle.refusals.specs.RefusedText.{refused_text}
 use Rattle.cli_parts.specs.Lines.{line, unread_text}
 use Rattle.cli_parts.specs.Outside.{Outside, Tells}
 use Rattle.cli_parts.specs.Runs.{IsFetched, RunKeeps}

@@ -2,11 +2,11 @@
 use Rattle.std.specs.Prelude.{◌≡◌, ◌++◌, ℕ, List, codes}
 use Rattle.std.specs.List.{AllZip, flat_map}
 use Rattle.claim_tree.specs.JsonText.{json_text}
-use Rattle.compact_form.specs.declared.fault.Fault.{Fault}
-use Rattle.compact_form.specs.Lowest.{IsLowest}
+use Rattle.refusals.specs.declared.fault.Fault.{Fault}
+use Rattle.refusals.specs.Lowest.{IsLowest}
 use Rattle.marked_tree.specs.Marked.{Marked, strip}
 use Rattle.verifier_core.specs.declared.policy.Policy.{Policy}
-use Rattle.compact_form.specs.RefusedText.{fault_text}
+use Rattle.refusals.specs.RefusedText.{fault_text}
 use Rattle.verifier_core.specs.Verdict.{Fails, IsAccepted}
 use Rattle.cli_parts.specs.Lines.{line}
 

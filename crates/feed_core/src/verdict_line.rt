@@ -2,13 +2,13 @@
 ghost use Rattle.std.specs.Prelude.{◌≡◌, ◌∷◌, [], ◌++◌, ℕ, List, OnOk, OnErr, codes, string_bytes};
 ghost use Rattle.claim_tree.specs.JsonText.{json_text};
 ghost use Rattle.claim_tree.specs.View.{tree_of};
-ghost use Rattle.compact_form.specs.RefusedText.{fault_text};
+ghost use Rattle.refusals.specs.RefusedText.{fault_text};
 ghost use Rattle.cli_parts.specs.Lines.{line};
 ghost use Rattle.feed_core.specs.FeedVerdict.{TellsVerdicts};
 
 use claim_tree::{Tree, write};
-use compact_form::Fault;
 use digest_index::Steps;
+use refusals::Fault;
 use sd_outside::NoMemory;
 use std::alloc::Global;
 use verifier_core::{Policy, VerifyError, fault_line, verify_payload};

@@ -11,16 +11,9 @@ use Rattle.hmac_sign.specs.CodeLengths.{code_length}
 use Rattle.hmac_sign.specs.Hmac.{filled, key_block, xored, hmac}
 use Rattle.hmac_sign.specs.declared.alg.Alg.{Alg}
 
--- each byte with the pad
-xored_each : (block out : List ℕ) (pad : ℕ) → length block ≡ 128 → length out ≡ 128 → ((i : ℕ) → i < 128 → get_or out i 0 ≡ bit_xor (get_or block i 0) pad) → out ≡ xored block pad
-xored_each block out pad whole long each =
-    let padded = λ (byte : ℕ). bit_xor byte pad in
-    ext_get_or 0 out (xored block pad) (long ∙ sym (length-map block padded ∙ whole))
-    (λ i lt. each i (omega (arith, long)) ∙ sym (get_or-map padded block i 0 0 (omega (arith, long, whole))))
-
 -- the front of a block, each byte with the pad
-pub xored_front : (n : ℕ) (block out : List ℕ) (pad : ℕ) → length block ≡ 128 → length out ≡ 128 → ((i : ℕ) → i < 128 → get_or out i 0 ≡ bit_xor (get_or block i 0) pad) → take n out ≡ xored (take n block) pad
-xored_front n block out pad whole long each = ap (λ (bytes : List ℕ). take n bytes) (xored_each block out pad whole long each) ∙ take-map (λ (byte : ℕ). bit_xor byte pad) n block
+pub xored_front : (n : ℕ) (block out : List ℕ) (pad : ℕ) → out ≡ xored block pad → take n out ≡ xored (take n block) pad
+xored_front n block out pad is = ap (λ (bytes : List ℕ). take n bytes) is ∙ take-map (λ (byte : ℕ). bit_xor byte pad) n block
 
 filled_whole : (size : ℕ) (block : List ℕ) → length block ≡ size → filled size block ≡ block
 filled_whole size block whole =

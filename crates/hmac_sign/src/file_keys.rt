@@ -1,11 +1,12 @@
-// The text of a key, as the files that a command reads have it.
+// The text of a key, and a set of keys, as the files that a command reads have them.
 ghost use Rattle.std.specs.Prelude.{◌<◌, IfOk, IfErr, IfSome, IfNone};
 ghost use Rattle.claim_tree.specs.View.{tree_of};
 ghost use Rattle.claim_tree.specs.FileForms.{HasValue, Says, required, found};
 ghost use Rattle.claim_tree.specs.FileRefusals.{IsMemberRefused};
 ghost use Rattle.hmac_sign.specs.KeyText.{IsKeyBytes, IsKeyText};
+ghost use Rattle.hmac_sign.specs.Keys.{IsKeySet};
 
-use crate::{Alg, Hs256Key};
+use crate::{Alg, Hs256Key, KeySet, KeySetError};
 use b64url_text::{DecodeError, decode};
 use claim_tree::{Field, FileFault, Tree, TreeMap};
 use sd_outside::{ByteBox, NoMemory};
@@ -56,5 +57,22 @@ pub fn key_of(alloc: Global, tree: &Tree) -> Result<Option<Hs256Key>, NoMemory>
     match key_bytes_of(alloc, tree)? {
         Some(bytes) => Ok(Hs256Key::new(bytes.bytes()).ok()),
         None => Ok(None),
+    }
+}
+
+/// The key set of a member that a file must have.
+pub fn keys_member(alloc: Global, members: &TreeMap, field: Field) -> Result<KeySet, FileFault>
+    ensures ok { IfOk result (Says IsKeySet (found members.now field)) }
+    ensures refused { IfErr result (IsMemberRefused (required field IsKeySet) members.now) }
+{
+    let Some(tree) = members.get(field.word()) else {
+        return Err(FileFault::Missing(field));
+    };
+    match KeySet::read(alloc, tree) {
+        Ok(keys) => Ok(keys),
+        Err(error) => match error {
+            KeySetError::Memory => Err(FileFault::Memory),
+            _ => Err(FileFault::Wrong(field)),
+        },
     }
 }

@@ -44,11 +44,22 @@ fn front_hasher(alg: Alg, block: &[u8; BLOCK_MAX]) -> Hasher
     Hasher::new(alg, &block[..alg.block_len()])
 }
 
+// The block with this pad on each byte.
+fn padded(block: &[u8; BLOCK_MAX], pad: u8) -> [u8; BLOCK_MAX]
+    ensures { result ≡ xored block.now pad }
+{
+    let mut bytes = *block;
+    for i in 0..BLOCK_MAX {
+        bytes[i] ^= pad;
+    }
+    bytes
+}
+
 // The inner hash, behind the block with the inner pad on each byte. The text is added to it.
 pub(crate) fn inner_hasher(alg: Alg, block: &[u8; BLOCK_MAX]) -> Hasher
     ensures { IsHashing result alg (xored (take (block_length alg) block.now) INNER_PAD) }
 {
-    front_hasher(alg, &block.map(|byte| byte ^ INNER_PAD))
+    front_hasher(alg, &padded(block, INNER_PAD))
 }
 
 // The outer hash over the inner one.
@@ -56,7 +67,7 @@ pub(crate) fn outer_hash(alg: Alg, block: &[u8; BLOCK_MAX], inner: &Mac) -> Mac
     ensures { result
         ≡ hash_by alg (xored (take (block_length alg) block.now) OUTER_PAD ++ inner.now) }
 {
-    front_hasher(alg, &block.map(|byte| byte ^ OUTER_PAD))
+    front_hasher(alg, &padded(block, OUTER_PAD))
         .with(inner.bytes())
         .finish()
 }

@@ -24,7 +24,7 @@ mod unsigned_jwt;
 
 pub use alg::{Alg, alg_named, alg_names};
 pub use fail_signer::FailSigner;
-pub use file_keys::{key_bytes_member, key_bytes_of, key_of};
+pub use file_keys::{key_bytes_member, key_bytes_of, key_of, keys_member};
 pub use hs_key::{HsKey, KeyShort};
 pub use hs256_key::Hs256Key;
 pub use key_set::{KeySet, KeySetError, NamedKey};

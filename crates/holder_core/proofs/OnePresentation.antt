@@ -2,14 +2,14 @@
 use Rattle.std.proofs.Common.{◌≡◌, ◌≢◌, ◌⊎◌, inl, inr, ℕ, ◌<◌, ◌≤◌, Bool, List, length, Option, None, Some, refl, sym, ap, ap₂, subst, ◌∙◌, arith}
 use Rattle.b64url_text.specs.Base64url.{b64}
 use Rattle.claim_tree.specs.Tree.{Text}
-use Rattle.claim_tree.specs.Lists.{IsLeast, AtNone}
+use Rattle.sd_outside.specs.Lists.{IsLeast, AtNone}
 use Rattle.compact_form.specs.Compact.{compact, hashed}
-use Rattle.compact_form.specs.Lowest.{IsLowest}
-use Rattle.compact_form.specs.declared.fault.Fault.{Fault}
+use Rattle.refusals.specs.Lowest.{IsLowest}
+use Rattle.refusals.specs.declared.fault.Fault.{Fault}
 use Rattle.sd_outside.specs.Limits.{compact_max}
 use Rattle.compact_form.specs.declared.parts.JwtParts.{JwtParts}
 use Rattle.compact_form.specs.declared.parts.Parts.{Parts}
-use Rattle.compact_form.specs.Faults.{failed_of}
+use Rattle.refusals.specs.Faults.{failed_of}
 use Rattle.disclosure.specs.declared.digests.HashAlg.{HashAlg}
 use Rattle.hmac_sign.specs.Signatures.{Meaning}
 use Rattle.json_form.proofs.Tokens as tokens
@@ -28,7 +28,7 @@ use Rattle.holder_core.specs.Asked.{Asked, BindingAsked, SayTheSame, AskTheSame}
 use Rattle.holder_core.specs.declared.errors.PresentError.{PresentError}
 use Rattle.holder_core.specs.declared.errors.PresentError.TheVariants.{Memory, Token as OnCondition, HasBinding, NoSuchPlace, ConsentRefused, BindingKeyDiffers, SignFailed, TooLong}
 use Rattle.holder_core.specs.Present.{picked, shown_for, IsHeld, NamesKid, NamesKey, IsBoundWith, IsAnswer, IsWantedNotThere, IsConsentRefused, IsBindingKeyOther, IsNoAnswer, IsPresented, IsNotPresented, no_memory, not_read, refused}
-use Rattle.claim_tree.proofs.Lists.{least_one}
+use Rattle.sd_outside.proofs.Lists.{least_one}
 
 -- no two signatures of a text are good
 abbrev pub HasOneSignature : Meaning → Type 0

@@ -19,7 +19,7 @@ use Rattle.json_form.proofs.Tokens as tokens
 use Rattle.key_binding.specs.Binding.{AreReadBack}
 use Rattle.marked_tree.specs.Marked.{Marked}
 use Rattle.selection_core.specs.Consent.{RuleAnswers}
-use Rattle.compact_form.specs.Lowest.{IsLowest}
+use Rattle.refusals.specs.Lowest.{IsLowest}
 use Rattle.verifier_core.specs.Verdict.{TokenFails, HasHash}
 use Rattle.holder_core.specs.declared.ask.CallerAsk.{CallerAsk}
 use Rattle.holder_core.specs.PresentCalls.{OnTokenFault}

@@ -7,13 +7,13 @@ use Rattle.std.proofs.lemmas.Result.{err_from_is_err_and}
 use Rattle.b64url_text.specs.Base64url.{IsWord}
 use Rattle.claim_tree.specs.Tree.{Text, Tree}
 use Rattle.compact_form.specs.Compact.{AreWords}
-use Rattle.compact_form.specs.Condition.{number_of}
-use Rattle.compact_form.specs.Faults.{fault_at, failed_of}
-use Rattle.compact_form.specs.declared.condition.Condition.{Condition}
-use Rattle.compact_form.specs.declared.fault.Place.{Place}
-use Rattle.compact_form.specs.declared.fault.Place.TheVariants.{Nowhere}
+use Rattle.refusals.specs.Condition.{number_of}
+use Rattle.refusals.specs.Faults.{fault_at, failed_of}
+use Rattle.refusals.specs.declared.condition.Condition.{Condition}
+use Rattle.refusals.specs.declared.fault.Place.{Place}
+use Rattle.refusals.specs.declared.fault.Place.TheVariants.{Nowhere}
 use Rattle.compact_form.specs.Compact as form
-use Rattle.compact_form.specs.Lowest.{IsLowest, IsNoLater}
+use Rattle.refusals.specs.Lowest.{IsLowest, IsNoLater}
 use Rattle.compact_form.specs.Views.{jwt_of}
 use Rattle.compact_form.specs.declared.parts.JwtParts.{JwtParts}
 use Rattle.compact_form.specs.declared.parts.Parts.{Parts}
@@ -27,12 +27,12 @@ use Rattle.marked_tree.specs.Paths.{chosen}
 use Rattle.marked_tree.specs.Marked.{Marked, strip, prune}
 use Rattle.marked_tree.specs.Numbers.{has}
 use Rattle.selection_core.specs.Consent.{RuleAnswers, AllAllowed, IsRefusedAt}
-use Rattle.compact_form.specs.declared.fault.Fault.{Fault}
+use Rattle.refusals.specs.declared.fault.Fault.{Fault}
 use Rattle.jws_part.specs.Header.{IsHeaderUnreadable, IsHeaderCritical}
 use Rattle.verifier_core.specs.Asking.{IsEarlyOrSigned}
 use Rattle.verifier_core.specs.Check.{OnFault, IsSigned, IsUncounted}
 use Rattle.verifier_core.specs.Verdict.{Rules, TokenFails}
-use Rattle.verifier_core.specs.declared.check.VerifyError.{VerifyError}
+use Rattle.verifier_core.specs.declared.token_checking.VerifyError.{VerifyError}
 use Rattle.holder_core.specs.Asked.{Asked}
 use Rattle.holder_core.specs.declared.errors.PresentError.{PresentError}
 use Rattle.holder_core.specs.declared.errors.PresentError.TheVariants.{Memory, Token as OnCondition, HasBinding, NoSuchPlace, ConsentRefused, BindingKeyDiffers, SignFailed, TooLong}

@@ -2,11 +2,11 @@
 -- (RFC 9901 section 7.2).
 use Rattle.std.specs.Prelude.{◌≡◌, ◌≢◌, ◌<◌, ℕ, suc, Bool, List, [], ◌∷◌, length, Option, None, Some, if◌then◌else◌}
 use Rattle.claim_tree.specs.Tree.{Text, Tree}
-use Rattle.claim_tree.specs.Lists.{IsLeast, AtNone}
+use Rattle.sd_outside.specs.Lists.{IsLeast, AtNone}
 use Rattle.compact_form.specs.Compact.{compact, hashed}
-use Rattle.compact_form.specs.Lowest.{IsLowest}
+use Rattle.refusals.specs.Lowest.{IsLowest}
 use Rattle.json_form.specs.Token as file
-use Rattle.compact_form.specs.declared.fault.Fault.{Fault}
+use Rattle.refusals.specs.declared.fault.Fault.{Fault}
 use Rattle.sd_outside.specs.Limits.{compact_max}
 use Rattle.compact_form.specs.declared.parts.JwtParts.{JwtParts}
 use Rattle.compact_form.specs.declared.parts.Parts.{Parts}

@@ -1,11 +1,11 @@
 -- The line that tells why nothing is presented.
 use Rattle.std.specs.Prelude.{Option, None, Some}
 use Rattle.claim_tree.specs.Tree.{Text}
-use Rattle.compact_form.specs.declared.fault.Place.{Place}
-use Rattle.compact_form.specs.declared.fault.Place.TheVariants.{Nowhere, At}
-use Rattle.compact_form.specs.declared.refusal.Refusal.{Refusal}
-use Rattle.compact_form.specs.Faults.{failed_of}
-use Rattle.compact_form.specs.RefusedText.{place_text, told_text}
+use Rattle.refusals.specs.declared.fault.Place.{Place}
+use Rattle.refusals.specs.declared.fault.Place.TheVariants.{Nowhere, At}
+use Rattle.refusals.specs.declared.refusal.Refusal.{Refusal}
+use Rattle.refusals.specs.Faults.{failed_of}
+use Rattle.refusals.specs.RefusedText.{place_text, told_text}
 use Rattle.holder_core.specs.declared.errors.PresentError.{PresentError}
 use Rattle.holder_core.specs.declared.errors.PresentError.TheVariants.{Memory, Token as OnCondition, HasBinding, NoSuchPlace, ConsentRefused, BindingKeyDiffers, SignFailed, TooLong}
 

@@ -3,7 +3,7 @@ use Rattle.std.specs.Prelude.{◌≡◌, ◌≢◌, ◌<◌, ◌≤◌, ◌⊎�
 use Rattle.claim_tree.specs.Tree.{Text, Tree}
 use Rattle.claim_tree.specs.View.{tree_of}
 use Rattle.claim_tree.specs.declared.tree.Tree as declared
-use Rattle.claim_tree.specs.Lists.{IsLeast, AtNone}
+use Rattle.sd_outside.specs.Lists.{IsLeast, AtNone}
 use Rattle.compact_form.specs.Compact.{compact, hashed}
 use Rattle.sd_outside.specs.Limits.{compact_max}
 use Rattle.compact_form.specs.declared.parts.JwtParts.{JwtParts}

@@ -6,7 +6,7 @@ use Rattle.claim_tree.specs.Tree.{Text}
 use Rattle.claim_tree.specs.View.{tree_of}
 use Rattle.b64url_text.specs.Base64url.{IsWord}
 use Rattle.compact_form.specs.Compact.{AreWords, compact, hashed}
-use Rattle.compact_form.specs.Passing.{Passes}
+use Rattle.refusals.specs.Passing.{Passes}
 use Rattle.compact_form.specs.declared.parts.JwtParts.{JwtParts}
 use Rattle.compact_form.specs.declared.parts.Parts.{Parts}
 use Rattle.sd_outside.specs.Limits.{compact_max}

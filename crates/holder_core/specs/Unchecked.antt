@@ -1,5 +1,5 @@
 -- For private functions: the answer for a token that is not checked.
-use Rattle.verifier_core.specs.declared.check.VerifyError.{VerifyError}
+use Rattle.verifier_core.specs.declared.token_checking.VerifyError.{VerifyError}
 use Rattle.holder_core.specs.declared.errors.PresentError.{PresentError}
 
 abbrev pub unchecked : VerifyError → PresentError

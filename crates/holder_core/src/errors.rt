@@ -1,5 +1,5 @@
 // Why nothing is presented.
-use compact_form::Fault;
+use refusals::Fault;
 use sd_outside::NoMemory;
 use verifier_core::VerifyError;
 

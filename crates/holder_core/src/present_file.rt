@@ -14,11 +14,10 @@ use claim_tree::{
     Field, FileFault, PathList, Tree, TreeMap, pointer_list_member, read_members, text_list_member,
 };
 use compact_form::FILE_MAX;
-use hmac_sign::{Hs256Key, key_of};
+use hmac_sign::{Hs256Key, key_of, keys_member};
 use key_binding::short_text_in;
 use sd_outside::{NoMemory, TextBox, TextList};
 use std::alloc::Global;
-use verifier_core::keys_member;
 
 const FIELDS: [Field; 4] = [Field::Keys, Field::Want, Field::Never, Field::Binding];
 

@@ -3,7 +3,7 @@ ghost use Rattle.std.specs.Prelude.{◌≡◌, IfOk};
 ghost use Rattle.holder_core.specs.PresentRefusal.{present_place, present_refusal, present_refusal_text};
 
 use crate::PresentError;
-use compact_form::{Place, Refusal, placed_line};
+use refusals::{Place, Refusal, placed_line};
 use sd_outside::{NoMemory, TextBox};
 use std::alloc::Global;
 

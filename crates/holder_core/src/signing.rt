@@ -4,7 +4,7 @@ ghost use Rattle.std.specs.Option.{is_some};
 ghost use Rattle.sd_outside.specs.Causes.{Rose};
 ghost use Rattle.sd_outside.specs.Limits.{compact_max};
 ghost use Rattle.compact_form.specs.Compact.{AreWords, compact as compact_text};
-ghost use Rattle.compact_form.specs.Lowest.{IsLowest};
+ghost use Rattle.refusals.specs.Lowest.{IsLowest};
 ghost use Rattle.compact_form.specs.declared.parts.Parts.{Parts as SeenParts};
 ghost use Rattle.hmac_sign.specs.Agreement.{Agree};
 ghost use Rattle.json_form.specs.Token.{IsToken};

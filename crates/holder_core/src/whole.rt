@@ -1,7 +1,7 @@
 // What is presented of a token without disclosures: nothing of its payload is marked, so no mark is
 // built or chosen. The common way would answer the same, at the cost of a marked tree.
 ghost use Rattle.std.specs.Prelude.{◌≡◌, ◌<◌, ◌-◌, ◌^◌, None, length, IfOk, IfErr, IfSome};
-ghost use Rattle.claim_tree.specs.Lists.{IsLeast, AtNone};
+ghost use Rattle.sd_outside.specs.Lists.{IsLeast, AtNone};
 ghost use Rattle.claim_tree.specs.View.{tree_of};
 ghost use Rattle.compact_form.specs.Compact.{AreWords};
 ghost use Rattle.selection_core.specs.ChoiceRefusals.{IsMissing};

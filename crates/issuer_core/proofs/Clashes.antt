@@ -3,8 +3,8 @@ use Rattle.std.proofs.Common.{◌≡◌, ℕ, zero, suc, ◌<◌, ◌≤◌, ◌
 use Rattle.std.proofs.lemmas.List.{length-take-le}
 use Rattle.std.proofs.lemmas.Bool.{cases_lt}
 use Rattle.claim_tree.specs.Tree.{Text}
-use Rattle.claim_tree.specs.Lists.{StandsAt, Repeats, AtNone}
-use Rattle.claim_tree.proofs.Lists.{bytes_refl, At-below, At-get, At-same, take-At}
+use Rattle.sd_outside.specs.Lists.{StandsAt, Repeats, AtNone}
+use Rattle.sd_outside.proofs.Lists.{bytes_refl, At-below, At-get, At-same, take-At}
 use Rattle.digest_index.specs.Index.{position_or_end}
 use Rattle.rebuild_core.proofs.Repeated.{place_there, repeats_there, repeats_new}
 use Rattle.issuer_core.specs.Clash.{IsFirstClash}

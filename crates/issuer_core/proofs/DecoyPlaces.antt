@@ -2,7 +2,7 @@
 use Rattle.std.proofs.Common.{◌≡◌, ℕ, zero, suc, ◌+◌, ◌<◌, List, [], ◌∷◌, ◌++◌, Bool, ap, arith, cond, false, inl, inr, length, refl, subst, sym, true, ⊎_elim, ◌∙◌}
 use Rattle.std.specs.Prelude.{replicate}
 use Rattle.issuer_core.specs.declared.order.Decoy.{Decoy}
-use Rattle.claim_tree.specs.Lists.{StandsAt, In}
+use Rattle.sd_outside.specs.Lists.{StandsAt, In}
 use Rattle.claim_tree.specs.Path.{tree_at}
 use Rattle.claim_tree.specs.Tree.{Text}
 use Rattle.marked_tree.specs.Paths.{Path, same_path}
@@ -10,7 +10,7 @@ use Rattle.claim_tree.proofs.SamePaths.{path_refl}
 use Rattle.issuer_core.specs.Decoys.{decoys_at, decoys_of, earlier, decoy_paths}
 use Rattle.issuer_core.specs.GoodOrder.{HoldsOthers, IsGoodOrder}
 use Rattle.issuer_core.specs.Order.{Order}
-use Rattle.claim_tree.proofs.Lists.{In-append}
+use Rattle.sd_outside.proofs.Lists.{In-append}
 
 In-replicate : (n : ℕ) (x q : Path) → In q (replicate n x) → q ≡ x
 In-replicate zero x q h = elim h [ ]

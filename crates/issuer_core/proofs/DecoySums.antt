@@ -3,7 +3,7 @@ use Rattle.std.proofs.Common.{◌≡◌, ℕ, suc, ◌+◌, ◌<◌, ◌≤◌, 
 use Rattle.std.proofs.lemmas.Fmt.{decimal_injective}
 use Rattle.std.specs.Prelude.{bytes_eq, option_and_then}
 use Rattle.claim_tree.specs.Everywhere.{InElements, InMembers}
-use Rattle.claim_tree.specs.Lists.{In}
+use Rattle.sd_outside.specs.Lists.{In}
 use Rattle.claim_tree.specs.Path.{element_on, tree_at}
 use Rattle.claim_tree.specs.Tree.{Elements, ElementsOrdered, IsOrdered, Members, MembersOrdered, Text, Tree, array, element, elements_len, leaf, member, member_named, names, no_elements, no_members, object}
 use Rattle.marked_tree.specs.Paths.{Path, same_path}
@@ -11,7 +11,7 @@ use Rattle.issuer_core.specs.Decoys.{decoys_at}
 use Rattle.issuer_core.specs.Digests.{digests_from}
 use Rattle.issuer_core.specs.GoodOrder.{HoldsOthers}
 use Rattle.issuer_core.specs.ShortLists.{HasShortLists}
-use Rattle.claim_tree.proofs.Lists.{bytes_refl, bytes_same}
+use Rattle.sd_outside.proofs.Lists.{bytes_refl, bytes_same}
 use Rattle.claim_tree.proofs.Positions.{unequal}
 use Rattle.marked_tree.proofs.Puts.{IsBeforeAll-not_in}
 use Rattle.marked_tree.proofs.Sums.{sum_of, sum_of-append}

@@ -1,8 +1,8 @@
 -- What is so of the different ones of some paths, and so of all.
 use Rattle.std.proofs.Common.{◌≡◌, ℕ, ◌+◌, List, [], ◌∷◌, Bool, true, false, inl, inr, None, refl, ◌∙◌}
 use Rattle.std.specs.List.{position_from}
-use Rattle.claim_tree.specs.Lists.{In}
-use Rattle.claim_tree.proofs.Lists.{list_any-from, list_any-In, In-At}
+use Rattle.sd_outside.specs.Lists.{In}
+use Rattle.sd_outside.proofs.Lists.{list_any-from, list_any-In, In-At}
 use Rattle.claim_tree.proofs.SamePaths.{path_same, path_refl}
 use Rattle.marked_tree.specs.Paths.{Path, same_path, is_among}
 use Rattle.issuer_core.proofs.Firsts.{found_none}

@@ -4,7 +4,7 @@ use Rattle.json.proofs.Printed.Utf8.{IsUtf8-are_ascii}
 use Rattle.b64url_text.specs.Base64url.{AreBytes, b64}
 use Rattle.b64url_text.proofs.Texts.{AreBytes-text, b64_utf8}
 use Rattle.claim_tree.specs.Everywhere.{LeafIsUtf8, InElements, InMembers}
-use Rattle.claim_tree.specs.Lists.{In}
+use Rattle.sd_outside.specs.Lists.{In}
 use Rattle.claim_tree.specs.Tree.{null, flag, whole, text, Text, Leaf, Tree, leaf, array, object, Elements, Members}
 use Rattle.claim_tree.proofs.Everywheres.{everywhere_else, inserted_everywhere}
 use Rattle.claim_tree.proofs.TreeTexts.{HasTexts}

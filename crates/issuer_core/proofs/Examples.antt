@@ -2,7 +2,7 @@
 use Rattle.std.proofs.Common.{◌≡◌, ℕ, ◌+◌, List, [], ◌∷◌, None, Some, arith, codes, inl, inr, length, map, pos, refl, subst, sym}
 use Rattle.std.specs.Fmt.{digits}
 use Rattle.issuer_core.specs.declared.order.Decoy.{Decoy}
-use Rattle.claim_tree.specs.Lists.{In}
+use Rattle.sd_outside.specs.Lists.{In}
 use Rattle.claim_tree.specs.Path.{tree_at}
 use Rattle.claim_tree.specs.Tree.{IsRanged, Text, Tree, array, element, leaf, member, no_elements, no_members, object, text, whole}
 use Rattle.disclosure.specs.declared.digests.HashAlg.{HashAlg}

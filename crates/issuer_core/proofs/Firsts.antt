@@ -2,7 +2,7 @@
 use Rattle.std.proofs.Common.{◌≡◌, ℕ, zero, suc, ◌+◌, ◌<◌, List, [], ◌∷◌, ◌++◌, map, Bool, true, false, cond, Some, None, option_map, refl, sym, subst, ◌∙◌, arith}
 use Rattle.std.specs.Prelude.{slice_get}
 use Rattle.std.specs.List.{position_from}
-use Rattle.claim_tree.specs.Lists.{IsSuchAt, IsLeast, AtNone}
+use Rattle.sd_outside.specs.Lists.{IsSuchAt, IsLeast, AtNone}
 
 -- ---- the first element
 

@@ -3,7 +3,7 @@ use Rattle.std.proofs.Common.{◌≡◌, ℕ, suc, ◌+◌, ◌<◌, ◌≤◌, 
 use Rattle.std.specs.List.{AllByRecursion}
 use Rattle.b64url_text.specs.Base64url.{IsWord, b64}
 use Rattle.b64url_text.proofs.Codes.{IsWord-b64}
-use Rattle.claim_tree.specs.Lists.{StandsAt, Repeats, AtNone}
+use Rattle.sd_outside.specs.Lists.{StandsAt, Repeats, AtNone}
 use Rattle.claim_tree.specs.Tree.{Text, Tree, leaf, text, array, object, IsRanged}
 use Rattle.claim_tree.proofs.Datas.{MembersRanged-inserted}
 use Rattle.rebuild_core.specs.Payload.{alg_name}
@@ -29,7 +29,7 @@ use Rattle.issuer_core.specs.Laying.{IsLaidFor}
 use Rattle.issuer_core.specs.Laid.{IsLaid, with_alg}
 use Rattle.issuer_core.specs.Clash.{IsFirstClash}
 use Rattle.issuer_core.specs.Laws.{PartsAreIssued, SignedIsIssued}
-use Rattle.compact_form.specs.Lowest.{NoneApplies}
+use Rattle.refusals.specs.Lowest.{NoneApplies}
 use Rattle.issuer_core.specs.OrderRefusals.{AppliesToOrder, IsLowestRefusal, issue_number, refusal_place}
 use Rattle.issuer_core.specs.JudgeCalls.{IsOrderRefused}
 use Rattle.issuer_core.specs.Salts.{salt_of}

@@ -4,7 +4,7 @@ use Rattle.std.specs.List.{AllZip, AllByRecursion}
 use Rattle.b64url_text.specs.Base64url.{IsWord}
 use Rattle.b64url_text.proofs.Codes.{IsWord-b64}
 use Rattle.claim_tree.specs.Tree.{Text, Tree, object}
-use Rattle.claim_tree.specs.Lists.{StandsAt}
+use Rattle.sd_outside.specs.Lists.{StandsAt}
 use Rattle.compact_form.specs.Compact.{AreWords, HasWords}
 use Rattle.compact_form.specs.declared.parts.Parts.{Parts}
 use Rattle.digest_sites.specs.Given.{Given}

@@ -3,10 +3,10 @@ use Rattle.std.proofs.Common.{◌≡◌, ℕ, suc, ◌≤◌, List, [], ◌∷�
 use Rattle.std.specs.Prelude.{bytes_eq, option_and_then, option_map, if◌then◌else◌}
 use Rattle.std.specs.Ordering.{match_ordering, nat_cmp}
 use Rattle.std.specs.Cmp.Lexicographic.{slice_cmp}
-use Rattle.claim_tree.specs.Lists.{StandsAt, In}
+use Rattle.sd_outside.specs.Lists.{StandsAt, In}
 use Rattle.claim_tree.specs.Tree.{Text, Tree, leaf, array, object, Elements, no_elements, element, Members, no_members, member, text_of, depth, elements_depth, members_depth}
 use Rattle.claim_tree.proofs.Everywheres.{EachElementIn, EachMemberIn}
-use Rattle.claim_tree.proofs.Lists.{In-append, In-left, In-right}
+use Rattle.sd_outside.proofs.Lists.{In-append, In-left, In-right}
 use Rattle.digest_sites.specs.Given.{Given}
 use Rattle.digest_sites.specs.Reserved.{sd_name, dots_name, sd_texts, text_list, texts_of, element_digest}
 use Rattle.marked_tree.specs.Marked.{Marked, MarkedElements, MarkedMembers, marked_member, no_marked_members, put, strip}

@@ -3,9 +3,9 @@
 use Rattle.std.proofs.Common.{◌≡◌, ℕ, ◌≤◌, List, length, Bool, true, false, ⊎_elim, Some, None, IfSome, refl, sym, ap, ◌∙◌, subst, arith}
 use Rattle.std.specs.Prelude.{bytes_eq, if◌then◌else◌}
 use Rattle.std.specs.List.{range_with_len}
-use Rattle.claim_tree.specs.Lists.{StandsAt, In}
+use Rattle.sd_outside.specs.Lists.{StandsAt, In}
 use Rattle.claim_tree.specs.Tree.{Text, Tree, leaf, array, object, depth, Members, no_members, member, member_named}
-use Rattle.claim_tree.proofs.Lists.{At-In, At-below, At-same, In-At, In-append, In-of_map, bytes_same}
+use Rattle.sd_outside.proofs.Lists.{At-In, At-below, At-same, In-At, In-append, In-of_map, bytes_same}
 use Rattle.claim_tree.proofs.OtherMembers.{removed_inserted}
 use Rattle.digest_sites.specs.Given.{Given}
 use Rattle.digest_sites.specs.Reserved.{sd_name, sd_texts}

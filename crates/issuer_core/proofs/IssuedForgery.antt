@@ -2,7 +2,7 @@
 -- are a closed choice of the issued ones.
 use Rattle.std.proofs.Common.{◌≡◌, ◌+◌, ◌≤◌, List, [], ◌∷◌, Bool, true, false, cond, ◌⊎◌, inl, inr, ⊎_elim, refl, sym, subst, arith}
 use Rattle.std.specs.Prelude.{bytes_eq}
-use Rattle.claim_tree.specs.Lists.{In}
+use Rattle.sd_outside.specs.Lists.{In}
 use Rattle.claim_tree.specs.Tree.{Text, Tree}
 use Rattle.digest_sites.specs.Given.{Given}
 use Rattle.marked_tree.specs.Marked.{Marked, strip}
@@ -13,7 +13,7 @@ use Rattle.issuer_core.specs.Digests.{Maker, marked_claims, issued_digests}
 use Rattle.issuer_core.specs.GoodOrder.{IsGoodOrder}
 use Rattle.issuer_core.specs.Issued.{IsIssuedFor, occurs}
 use Rattle.issuer_core.specs.Order.{Order}
-use Rattle.claim_tree.proofs.Lists.{In-At, bytes_same}
+use Rattle.sd_outside.proofs.Lists.{In-At, bytes_same}
 use Rattle.marked_tree.proofs.MarkFacts.{mark_strips_holds}
 use Rattle.rebuild_core.proofs.Forgery.{IsHonest, none_forged}
 use Rattle.issuer_core.proofs.IssuedSound.{there_once, issued_is_sound_holds}

@@ -3,9 +3,9 @@ use Rattle.std.proofs.Common.{◌≡◌, ℕ, zero, suc, ◌+◌, List, [], ◌�
 use Rattle.b64url_text.specs.Base64url.{AreBytes, Decodes}
 use Rattle.b64url_text.proofs.Codes.{one_code}
 use Rattle.claim_tree.specs.JsonText.{json_text, Reads}
-use Rattle.claim_tree.specs.Lists.{StandsAt, In}
+use Rattle.sd_outside.specs.Lists.{StandsAt, In}
 use Rattle.claim_tree.specs.Tree.{Text, text, Tree, leaf}
-use Rattle.claim_tree.proofs.Lists.{At-In}
+use Rattle.sd_outside.proofs.Lists.{At-In}
 use Rattle.claim_tree.proofs.OwnReading.{read_as_itself}
 use Rattle.compact_form.specs.declared.parts.Parts.{Parts}
 use Rattle.digest_sites.specs.Given.{Given}

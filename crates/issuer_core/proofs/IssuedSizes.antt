@@ -7,7 +7,7 @@ use Rattle.json.specs.Print.{quoted}
 use Rattle.b64url_text.specs.Base64url.{bits, sixes, b64}
 use Rattle.claim_tree.specs.Everywhere.{InElements, InMembers}
 use Rattle.claim_tree.specs.JsonText.{json_text, elements_data, members_data}
-use Rattle.claim_tree.specs.Lists.{In}
+use Rattle.sd_outside.specs.Lists.{In}
 use Rattle.claim_tree.specs.Nodes.{nodes, elements_nodes, members_nodes}
 use Rattle.claim_tree.specs.Tree.{null, flag, whole, text, Text, Tree, leaf, array, object, Elements, no_elements, element, Members, no_members, member, elements_len, IsRanged, ElementsRanged, MembersRanged}
 use Rattle.compact_form.specs.Compact.{jwt, spelled, hashed, ending, compact}

@@ -2,7 +2,7 @@
 use Rattle.std.proofs.Common.{◌≡◌, ℕ, zero, suc, ◌+◌, ◌<◌, ◌≤◌, List, [], ◌∷◌, ◌++◌, Bool, ap, arith, cond, false, inl, inr, is_some, length, refl, subst, sym, true, ◌∙◌, ltb}
 use Rattle.std.specs.Prelude.{bytes_eq}
 use Rattle.claim_tree.proofs.Everywheres.{everywhere_else}
-use Rattle.claim_tree.specs.Lists.{StandsAt, In, AtNone, Repeats}
+use Rattle.sd_outside.specs.Lists.{StandsAt, In, AtNone, Repeats}
 use Rattle.claim_tree.specs.Tree.{Text, Tree, depth}
 use Rattle.digest_sites.specs.Given.{Given}
 use Rattle.marked_tree.specs.Laws.{HasEachMarkOnce}
@@ -18,7 +18,7 @@ use Rattle.issuer_core.specs.GoodOrder.{IsGoodOrder}
 use Rattle.issuer_core.specs.Issued.{HasDigestLists, IsIssuedFor, occurs}
 use Rattle.issuer_core.specs.Laws.{IssuedIsSound}
 use Rattle.issuer_core.specs.Order.{Order}
-use Rattle.claim_tree.proofs.Lists.{In-At, bytes_refl, bytes_same, At-left}
+use Rattle.sd_outside.proofs.Lists.{In-At, bytes_refl, bytes_same, At-left}
 use Rattle.marked_tree.proofs.MarkFacts.{mark_strips_holds, marks_once_holds}
 use Rattle.marked_tree.proofs.SpotMarks.{way_with}
 use Rattle.rebuild_core.proofs.AllShown.{shown_is_sound_holds}

@@ -1,6 +1,6 @@
 -- The disclosures of what is laid: each has its number, and each mark finds its own.
 use Rattle.std.proofs.Common.{◌≡◌, ℕ, zero, suc, ◌+◌, ◌≤◌, List, [], ◌∷◌, ◌++◌, None, Option, Some, ap, arith, decimal, length, length-append, refl, subst, sym, ⊎_elim, ◌∙◌}
-use Rattle.claim_tree.specs.Lists.{StandsAt, AtNone, Repeats}
+use Rattle.sd_outside.specs.Lists.{StandsAt, AtNone, Repeats}
 use Rattle.claim_tree.specs.Tree.{Text, Tree}
 use Rattle.digest_sites.specs.Given.{Given}
 use Rattle.marked_tree.specs.Marked.{Marked, MarkedElements, MarkedMembers, marked_array, marked_element, marked_leaf, marked_member, marked_object, no_marked_elements, no_marked_members}
@@ -9,7 +9,7 @@ use Rattle.marked_tree.specs.Paths.{Path}
 use Rattle.rebuild_core.specs.Reached.{given_digests}
 use Rattle.issuer_core.specs.Closing.{ClosesFrom, ElementsClose, HasNumber, MembersClose, one}
 use Rattle.issuer_core.specs.Laid.{laid_elements, laid_given, laid_members, lay, own_given}
-use Rattle.claim_tree.proofs.Lists.{At-either, At-left, At-right}
+use Rattle.sd_outside.proofs.Lists.{At-either, At-left, At-right}
 use Rattle.rebuild_core.proofs.Fixed.{find_at}
 use Rattle.issuer_core.proofs.Closing.{items_length, own_items_length}
 use Rattle.issuer_core.proofs.LaidOpens.{ElementsHaveItems, HasItems, MarkItem, MembersHaveItems, NoneFound, elements_mark_depth, mark_depth, members_mark_depth, one_deeper}

@@ -3,7 +3,7 @@ use Rattle.std.proofs.Common.{ℕ, suc, ◌≤◌, List, [], ◌∷◌, ◌++◌
 use Rattle.std.specs.Cmp.Lexicographic.{slice_cmp}
 use Rattle.std.specs.Ordering.{match_ordering, nat_cmp}
 use Rattle.claim_tree.specs.FileForms.{text_elements}
-use Rattle.claim_tree.specs.Lists.{In}
+use Rattle.sd_outside.specs.Lists.{In}
 use Rattle.claim_tree.specs.Tree.{ElementsRanged, IsRanged, Members, MembersRanged, Text, Tree, array, depth, elements_depth, inserted, member, members_depth, no_members}
 use Rattle.digest_sites.specs.Given.{Given}
 use Rattle.digest_sites.specs.Reserved.{sd_name}
@@ -13,7 +13,7 @@ use Rattle.issuer_core.specs.Digests.{Maker, marked_claims}
 use Rattle.issuer_core.specs.Laid.{IsLaid, digest_elements, hidden_digests, laid_elements, laid_given, laid_members, lay, lay_elements, lay_members, order_decoys, own_given, sorted, with_sd}
 use Rattle.issuer_core.specs.Order.{Order}
 use Rattle.claim_tree.proofs.Datas.{MembersRanged-inserted}
-use Rattle.claim_tree.proofs.Lists.{In-append}
+use Rattle.sd_outside.proofs.Lists.{In-append}
 use Rattle.marked_tree.proofs.MarkFacts.{mark_strips_holds}
 use Rattle.claim_tree.proofs.TextElements.{texts_depth, texts_ranged}
 

@@ -3,7 +3,7 @@ use Rattle.std.proofs.Common.{◌≡◌, ℕ, zero, suc, ◌+◌, List, [], ◌�
 use Rattle.std.specs.Cmp.Lexicographic.{slice_cmp}
 use Rattle.std.specs.Ordering.{match_ordering, nat_cmp}
 use Rattle.std.specs.Prelude.{bytes_eq, option_and_then, unwrap_or}
-use Rattle.claim_tree.specs.Lists.{StandsAt, In}
+use Rattle.sd_outside.specs.Lists.{StandsAt, In}
 use Rattle.claim_tree.specs.Path.{element_on, tree_at}
 use Rattle.claim_tree.specs.Tree.{Text, Tree, elements_len, member_named, names}
 use Rattle.digest_sites.specs.Given.{Given}
@@ -21,7 +21,7 @@ use Rattle.issuer_core.specs.Issued.{DecoysStand, IsDecoySite, origin}
 use Rattle.issuer_core.specs.Laid.{IsLaid, digest_elements, digest_object, hidden_digests, laid_elements, laid_given, laid_members, lay, lay_elements, lay_members, order_decoys, own_given, sorted, sorted_with, with_sd}
 use Rattle.issuer_core.specs.Laws.{LaidIsIssued}
 use Rattle.issuer_core.specs.Order.{Order}
-use Rattle.claim_tree.proofs.Lists.{At-In, At-below, In-left, In-map, In-right, bytes_same}
+use Rattle.sd_outside.proofs.Lists.{At-In, At-below, In-left, In-map, In-right, bytes_same}
 use Rattle.marked_tree.proofs.MarkFacts.{mark_strips_holds, marks_once_holds, up_to_le}
 use Rattle.marked_tree.proofs.Spots.{first_is, spots_weigh}
 use Rattle.rebuild_core.proofs.Chains.{item_of_value}

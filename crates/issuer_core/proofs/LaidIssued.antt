@@ -1,7 +1,7 @@
 -- What is laid, with digests that all differ, is issued.
 use Rattle.std.proofs.Common.{◌≡◌, ℕ, ◌+◌, List, ap, arith, cond, length, refl, subst, sym, ◌∙◌}
 use Rattle.std.specs.Prelude.{bytes_eq}
-use Rattle.claim_tree.specs.Lists.{In}
+use Rattle.sd_outside.specs.Lists.{In}
 use Rattle.claim_tree.specs.Tree.{Text, Tree, IsRanged}
 use Rattle.digest_sites.specs.Given.{Given}
 use Rattle.digest_sites.specs.Sites.{sites}

@@ -1,6 +1,6 @@
 -- What is laid for an order opens to its marked claims.
 use Rattle.std.proofs.Common.{◌≡◌, ℕ, suc, ◌+◌, ◌<◌, List, None, Option, Some, ap, arith, length, refl, subst, sym, ⊎_elim, ◌∙◌}
-use Rattle.claim_tree.specs.Lists.{StandsAt, AtNone, Repeats}
+use Rattle.sd_outside.specs.Lists.{StandsAt, AtNone, Repeats}
 use Rattle.claim_tree.specs.Tree.{Text, Tree}
 use Rattle.digest_sites.specs.Given.{Given}
 use Rattle.marked_tree.specs.Paths.{Path, is_among}
@@ -12,7 +12,7 @@ use Rattle.issuer_core.specs.IssueCalls.{AllDiffer}
 use Rattle.issuer_core.specs.GoodOrder.{IsGoodOrder}
 use Rattle.issuer_core.specs.Laid.{IsLaid}
 use Rattle.issuer_core.specs.Order.{Order}
-use Rattle.claim_tree.proofs.Lists.{At-below, At-either, At-of_map, At-left}
+use Rattle.sd_outside.proofs.Lists.{At-below, At-either, At-of_map, At-left}
 use Rattle.rebuild_core.proofs.Found.{found}
 use Rattle.issuer_core.proofs.Closing.{items_length, order_closes, order_marks}
 use Rattle.issuer_core.proofs.DecoyPlaces.{in_decoys}

@@ -6,7 +6,7 @@ use Rattle.std.specs.Ordering.{match_ordering, nat_cmp}
 use Rattle.std.specs.Prelude.{bytes_eq}
 use Rattle.claim_tree.proofs.Everywheres.{EachElementIn, EachMemberIn, inserted_everywhere}
 use Rattle.claim_tree.specs.FileForms.{text_elements}
-use Rattle.claim_tree.specs.Lists.{In}
+use Rattle.sd_outside.specs.Lists.{In}
 use Rattle.claim_tree.specs.Tree.{Elements, IsBefore, IsBeforeAll, Members, Text, Tree, array, element, inserted, leaf, member, no_elements, no_members, object}
 use Rattle.digest_sites.specs.Given.{Given}
 use Rattle.digest_sites.specs.Reserved.{dots_name, sd_name}
@@ -18,7 +18,7 @@ use Rattle.issuer_core.specs.Decoys.{decoys_at}
 use Rattle.issuer_core.specs.IssueCalls.{AllDiffer}
 use Rattle.issuer_core.specs.Issued.{HasDigestLists, IsDigestList, Rises}
 use Rattle.issuer_core.specs.Laid.{digest_elements, digest_object, hidden_digests, laid_elements, laid_given, laid_members, lay, lay_elements, lay_members, own_given, sorted, sorted_with, with_sd}
-use Rattle.claim_tree.proofs.Lists.{In-append, compare_lt}
+use Rattle.sd_outside.proofs.Lists.{In-append, compare_lt}
 use Rattle.rebuild_core.proofs.Sums.{Apart}
 use Rattle.issuer_core.proofs.DecoyPlaces.{in_decoys}
 use Rattle.issuer_core.proofs.PutSwaps.{sort_in}

@@ -1,6 +1,6 @@
 -- What is laid opens to the tree from which it was laid.
 use Rattle.std.proofs.Common.{◌≡◌, ℕ, zero, suc, ◌≤◌, List, [], ◌∷◌, ◌++◌, None, Option, Some, ap, ap₂, arith, cond, decimal, inl, inr, refl, subst, sym, ⊎_elim, ◌∙◌, max}
-use Rattle.claim_tree.specs.Lists.{In}
+use Rattle.sd_outside.specs.Lists.{In}
 use Rattle.claim_tree.specs.Tree.{IsBefore, IsBeforeAll, Text, Tree}
 use Rattle.digest_sites.specs.Given.{Given}
 use Rattle.digest_sites.specs.Reserved.{sd_name}
@@ -9,7 +9,7 @@ use Rattle.marked_tree.specs.MarkedCalls.{marked_names}
 use Rattle.rebuild_core.specs.Reached.{find}
 use Rattle.rebuild_core.specs.Opening.{Shown, nothing_shown, open_element, open_elements, open_members, open_tree, reveal, show_element, show_member, show_members, shown, shown_by}
 use Rattle.issuer_core.specs.Laid.{digest_object, hidden_digests, lay, lay_elements, lay_members, sorted, with_sd}
-use Rattle.claim_tree.proofs.Lists.{In-append}
+use Rattle.sd_outside.proofs.Lists.{In-append}
 use Rattle.marked_tree.proofs.Puts.{never_itself, put_first, put_later}
 use Rattle.rebuild_core.proofs.Fixed.{unknown}
 use Rattle.issuer_core.proofs.Plain.{ElementsPlain, IsPlain, MembersPlain}

@@ -1,7 +1,7 @@
 -- What is laid has ascending names.
 use Rattle.std.proofs.Common.{ℕ, suc, List, [], ◌∷◌, ◌++◌, None, Option, Some, decimal, inl, inr, subst, sym, ⊎_elim}
 use Rattle.claim_tree.specs.FileForms.{text_elements}
-use Rattle.claim_tree.specs.Lists.{In}
+use Rattle.sd_outside.specs.Lists.{In}
 use Rattle.claim_tree.specs.Tree.{ElementsOrdered, IsBeforeAll, IsOrdered, Members, MembersOrdered, Text, Tree, array, names}
 use Rattle.digest_sites.specs.Given.{Given}
 use Rattle.digest_sites.specs.Reserved.{sd_name}
@@ -12,7 +12,7 @@ use Rattle.issuer_core.specs.Decoys.{decoys_at, decoys_of}
 use Rattle.issuer_core.specs.Digests.{hidden_of, marked_claims}
 use Rattle.issuer_core.specs.Laid.{digest_elements, hidden_digests, laid_elements, laid_given, laid_members, lay, lay_elements, lay_members, own_given, sorted, with_sd}
 use Rattle.issuer_core.specs.Laws.{LaidIsReadable}
-use Rattle.claim_tree.proofs.Lists.{In-append}
+use Rattle.sd_outside.proofs.Lists.{In-append}
 use Rattle.claim_tree.proofs.MapPlaces.{ordered-inserted}
 use Rattle.issuer_core.proofs.Plain.{ElementsPlain, IsPlain, MembersPlain, marked_plain}
 use Rattle.claim_tree.proofs.TextElements.{texts_ordered}

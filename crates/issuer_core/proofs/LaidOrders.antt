@@ -3,7 +3,7 @@ use Rattle.std.proofs.Common.{◌≡◌, ℕ, zero, suc, ◌+◌, ◌<◌, ◌�
 use Rattle.std.specs.List.{slice_get}
 use Rattle.std.proofs.lemmas.List.{length-append, length-map, length-drop}
 use Rattle.claim_tree.specs.Tree.{Text, Tree, leaf, text}
-use Rattle.claim_tree.specs.Lists.{StandsAt}
+use Rattle.sd_outside.specs.Lists.{StandsAt}
 use Rattle.digest_sites.specs.Given.{Given}
 use Rattle.disclosure.specs.Digest.{digest_of}
 use Rattle.disclosure.specs.Disclosure.{disclosure_text}

@@ -1,7 +1,7 @@
 -- The lowest refusal that applies, sought step by step.
 use Rattle.std.proofs.Common.{◌≡◌, ◌≤◌, ℕ, suc, refl, subst, sym, arith, ◌∙◌}
 use Rattle.std.proofs.Math.Arith.{lt_of_le-ne}
-use Rattle.claim_tree.specs.Lists.{IsLeast, AtNone}
+use Rattle.sd_outside.specs.Lists.{IsLeast, AtNone}
 use Rattle.claim_tree.proofs.Counting.{not_below}
 use Rattle.issuer_core.specs.declared.errors.IssueError.{IssueError}
 use Rattle.issuer_core.specs.declared.errors.IssueError.TheVariants.{RootMarked, NoSuchPlace, ProtectedClaim, DecoyPlace}

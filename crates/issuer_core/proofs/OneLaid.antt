@@ -1,7 +1,7 @@
 -- An order is laid in one way: the digests, the disclosures and the payload are determined by how texts are made.
 use Rattle.std.proofs.Common.{◌≡◌, ℕ, suc, ◌+◌, ◌-◌, ◌<◌, ◌≤◌, ◌⊎◌, inl, inr, List, [], ◌∷◌, ◌++◌, None, Option, Some, ap, arith, decimal, length, refl, subst, sym, ◌∙◌, if◌then◌else◌}
 use Rattle.std.proofs.lemmas.Bool.{cases_lt}
-use Rattle.claim_tree.specs.Lists.{StandsAt}
+use Rattle.sd_outside.specs.Lists.{StandsAt}
 use Rattle.claim_tree.specs.Tree.{Text, Tree}
 use Rattle.disclosure.specs.declared.digests.HashAlg.{HashAlg}
 use Rattle.digest_sites.specs.Given.{Given}
@@ -13,7 +13,7 @@ use Rattle.issuer_core.specs.Digests.{Maker, hidden_of, marked_claims}
 use Rattle.issuer_core.specs.Laid.{laid_elements, laid_given, laid_members, lay, own_given, order_decoys, IsLaid}
 use Rattle.marked_tree.specs.Ways.{weight, mark_weight}
 use Rattle.issuer_core.specs.Closing.{one, HasNumber, ClosesFrom, ElementsClose, MembersClose}
-use Rattle.claim_tree.proofs.Lists.{At-get}
+use Rattle.sd_outside.proofs.Lists.{At-get}
 use Rattle.issuer_core.proofs.Agrees.{MarkAgrees, MarksAgree, ElementsAgree, MembersAgree, DecoysAgree, lay_agrees, items_agree}
 use Rattle.issuer_core.proofs.Closing.{items_length, order_closes, order_marks}
 use Rattle.issuer_core.proofs.ItemNumbers.{EachFrom, parts}

@@ -1,7 +1,7 @@
 -- An order that is refused is refused in one way.
 use Rattle.std.proofs.Common.{◌≡◌, ℕ, List, Some, Option, ap, ap₂, arith, refl, subst, sym, ◌∙◌}
 use Rattle.claim_tree.specs.Tree.{Text}
-use Rattle.claim_tree.specs.Lists.{IsLeast}
+use Rattle.sd_outside.specs.Lists.{IsLeast}
 use Rattle.hmac_sign.specs.Signatures.{Meaning}
 use Rattle.marked_tree.specs.Paths.{Path}
 use Rattle.issuer_core.specs.declared.errors.IssueError.{IssueError}
@@ -12,7 +12,7 @@ use Rattle.issuer_core.specs.Clash.{IsEqualAt, IsFirstClash}
 use Rattle.issuer_core.specs.OrderRefusals.{issue_number, refusal_place, IsLowestRefusal}
 use Rattle.issuer_core.specs.Issue.{laid_digests, ClashesAt, AppliesToIssue}
 use Rattle.issuer_core.proofs.FromLaid.{one_list}
-use Rattle.claim_tree.proofs.Lists.{least_one}
+use Rattle.sd_outside.proofs.Lists.{least_one}
 
 one_first_clash : (texts : List Text) (i j k l : ℕ) → IsFirstClash texts i j → IsFirstClash texts k l → (i ≡ k) × (j ≡ l)
 one_first_clash texts i j k l this other =

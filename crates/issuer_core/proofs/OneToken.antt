@@ -15,7 +15,7 @@ use Rattle.issuer_core.specs.declared.errors.IssueError.TheVariants.{DigestClash
 use Rattle.issuer_core.specs.Order.{Order}
 use Rattle.issuer_core.specs.Digests.{Maker, made_texts}
 use Rattle.issuer_core.specs.Laid.{with_alg}
-use Rattle.compact_form.specs.Lowest.{NoneApplies}
+use Rattle.refusals.specs.Lowest.{NoneApplies}
 use Rattle.issuer_core.specs.OrderRefusals.{AppliesToOrder}
 use Rattle.issuer_core.specs.Written.{IsWritten, IsLaidOut}
 use Rattle.issuer_core.specs.Issue.{AppliesToIssue, HasNoClash, IsIssueTooLong}

@@ -7,7 +7,7 @@ use Rattle.std.specs.Prelude.{nat_le, slice_get}
 use Rattle.std.proofs.lemmas.Bool.{leb-true, le-leb}
 use Rattle.std.specs.List.Sorted.{IsPartitionedBy}
 use Rattle.claim_tree.specs.Tree.{Text}
-use Rattle.claim_tree.proofs.Lists.{bytes_refl}
+use Rattle.sd_outside.proofs.Lists.{bytes_refl}
 use Rattle.marked_tree.specs.Paths.{Path, same_path}
 use Rattle.marked_tree.specs.Rests.{rests, step_order, path_order, AreSorted, Every, Compares, IsRunOfPaths}
 use Rattle.marked_tree.proofs.StepOrder.{same_step, step_before, steps_apart, steps_apart_back}

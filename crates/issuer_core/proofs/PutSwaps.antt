@@ -3,7 +3,7 @@ use Rattle.std.proofs.Common.{◌≡◌, ℕ, List, [], ◌∷◌, ◌++◌, Equ
 use Rattle.std.proofs.lemmas.Map.Lookups.{exact_bytes}
 use Rattle.std.specs.Cmp.Lexicographic.{slice_cmp}
 use Rattle.std.specs.Ordering.{match_ordering, nat_cmp}
-use Rattle.claim_tree.specs.Lists.{In}
+use Rattle.sd_outside.specs.Lists.{In}
 use Rattle.claim_tree.specs.Tree.{IsBefore, Text}
 use Rattle.marked_tree.specs.Marked.{Marked, MarkedMembers, marked_member, no_marked_members, put}
 use Rattle.rebuild_core.specs.Opening.{Shown, nothing_shown, show_member, show_members, shown}

@@ -5,8 +5,8 @@ use Rattle.b64url_text.specs.Base64url.{b64}
 use Rattle.b64url_text.proofs.Texts.{b64_utf8}
 use Rattle.claim_tree.specs.Tree.{Text, Tree, leaf, text, array, object, no_members, depth, IsOrdered, IsRanged}
 use Rattle.claim_tree.specs.JsonText.{json_text}
-use Rattle.claim_tree.specs.Lists.{StandsAt}
-use Rattle.claim_tree.proofs.Lists.{At-In}
+use Rattle.sd_outside.specs.Lists.{StandsAt}
+use Rattle.sd_outside.proofs.Lists.{At-In}
 use Rattle.claim_tree.proofs.TreeTexts.{HasTexts}
 use Rattle.compact_form.specs.declared.parts.Parts.{Parts}
 use Rattle.digest_sites.specs.Given.{Given}

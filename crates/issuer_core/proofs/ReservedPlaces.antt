@@ -9,7 +9,7 @@ use Rattle.claim_tree.specs.Tree.{Text, leaf, array, object, Elements, no_elemen
 use Rattle.claim_tree.specs.declared.tree.Tree.{Tree}
 use Rattle.claim_tree.specs.View.{tree_of}
 use Rattle.claim_tree.specs.ListViews.{elements_of, members_of}
-use Rattle.claim_tree.proofs.Lists.{bytes_same}
+use Rattle.sd_outside.proofs.Lists.{bytes_same}
 use Rattle.claim_tree.proofs.Walks.{Named}
 use Rattle.digest_sites.specs.Reserved.{sd_name, dots_name}
 use Rattle.marked_tree.specs.Paths.{Path}

@@ -5,7 +5,7 @@ use Rattle.std.specs.Cmp.Lexicographic.{slice_cmp}
 use Rattle.std.specs.Ordering.{match_ordering, nat_cmp}
 use Rattle.std.specs.Prelude.{bytes_eq, option_and_then}
 use Rattle.claim_tree.specs.FileForms.{text_elements}
-use Rattle.claim_tree.specs.Lists.{In}
+use Rattle.sd_outside.specs.Lists.{In}
 use Rattle.claim_tree.specs.Tree.{Members, Text, Tree, array, inserted, member, no_members, object}
 use Rattle.digest_sites.specs.Reserved.{dots_name, element_digest, sd_name, sd_texts, texts_of}
 use Rattle.digest_sites.specs.Sites.{Site, member_sites, sites, to_member, under}
@@ -13,7 +13,7 @@ use Rattle.marked_tree.specs.Marked.{Marked, MarkedMembers, marked_array, marked
 use Rattle.rebuild_core.specs.Opening.{Shown, nothing_shown, open_elements, open_members, open_tree}
 use Rattle.rebuild_core.proofs.AllShown.{sd_no_dots}
 use Rattle.issuer_core.specs.Laid.{digest_elements, digest_object, hidden_digests, lay, lay_members, sorted, with_sd}
-use Rattle.claim_tree.proofs.Lists.{bytes_refl}
+use Rattle.sd_outside.proofs.Lists.{bytes_refl}
 use Rattle.issuer_core.proofs.Plain.{IsPlain, MembersPlain}
 
 abbrev pub HasNo : Text → Members → Type 0

@@ -5,7 +5,7 @@ use Rattle.std.specs.Ordering.{match_ordering}
 use Rattle.claim_tree.specs.FileForms.{text_elements}
 use Rattle.claim_tree.specs.Tree.{Text, Members, array, inserted}
 use Rattle.digest_sites.specs.Reserved.{sd_name}
-use Rattle.claim_tree.proofs.Lists.{bytes_same}
+use Rattle.sd_outside.proofs.Lists.{bytes_same}
 use Rattle.claim_tree.proofs.MapPlaces.{cmp, before_after}
 use Rattle.issuer_core.specs.Laid.{sorted, sorted_with, with_sd}
 use Rattle.marked_tree.proofs.RisingTexts.{lower, tie_is, NoneBelow, Rising, rising, below_all, same_as, swapped, one_rising}

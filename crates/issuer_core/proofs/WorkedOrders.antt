@@ -13,7 +13,7 @@ use Rattle.b64url_text.proofs.Lengths.{length-b64}
 use Rattle.claim_tree.specs.JsonText.{json_text}
 use Rattle.claim_tree.specs.Tree.{Text, Tree, depth, leaf, object, text}
 use Rattle.compact_form.specs.Compact.{AreWords, compact, hashed, jwt, spelled}
-use Rattle.compact_form.specs.Lowest.{NoneApplies}
+use Rattle.refusals.specs.Lowest.{NoneApplies}
 use Rattle.compact_form.specs.declared.parts.Parts.{Parts}
 use Rattle.digest_sites.specs.Given.{Given}
 use Rattle.disclosure.specs.Digest.{digest_of}

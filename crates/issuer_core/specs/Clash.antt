@@ -1,7 +1,7 @@
 -- Two texts of a list that are equal.
 use Rattle.std.specs.Prelude.{ℕ, ◌<◌, List}
 use Rattle.claim_tree.specs.Tree.{Text}
-use Rattle.claim_tree.specs.Lists.{StandsAt, Repeats, IsLeast}
+use Rattle.sd_outside.specs.Lists.{StandsAt, Repeats, IsLeast}
 
 -- the text at place i stands at the later place j as well
 pub record IsEqualAt (texts : List Text) (j i : ℕ) : Type 0 where

@@ -5,7 +5,7 @@ use Rattle.std.specs.Str.{IsUtf8}
 use Rattle.sd_outside.specs.Limits.{depth_max}
 use Rattle.claim_tree.specs.Everywhere.{LeafIsUtf8, Everywhere}
 use Rattle.claim_tree.specs.Tree.{Text, Leaf, text, Tree, array, object, depth, elements_len, IsOrdered, IsRanged}
-use Rattle.claim_tree.specs.Lists.{In}
+use Rattle.sd_outside.specs.Lists.{In}
 use Rattle.claim_tree.specs.Path.{tree_at}
 use Rattle.rebuild_core.specs.Free.{HasNoReserved}
 use Rattle.issuer_core.specs.declared.order.Decoy.{Decoy}

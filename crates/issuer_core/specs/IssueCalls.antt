@@ -8,7 +8,7 @@ use Rattle.issuer_core.specs.declared.errors.IssueError.{IssueError}
 use Rattle.issuer_core.specs.declared.errors.IssueError.TheVariants.{Memory, SignFailed}
 use Rattle.issuer_core.specs.Order.{Order}
 use Rattle.issuer_core.specs.Digests.{Maker}
-use Rattle.compact_form.specs.Lowest.{NoneApplies}
+use Rattle.refusals.specs.Lowest.{NoneApplies}
 use Rattle.issuer_core.specs.OrderRefusals.{AppliesToOrder, IsLowestRefusal}
 use Rattle.issuer_core.specs.Issue.{AppliesToIssue, HasNoClash}
 

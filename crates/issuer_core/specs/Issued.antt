@@ -2,7 +2,7 @@
 use Rattle.std.specs.Prelude.{◌≡◌, ℕ, ◌+◌, List, [], ◌∷◌, ◌++◌, map, length, true, Option, Some, bytes_eq, decimal, if◌then◌else◌, unwrap_or}
 use Rattle.claim_tree.specs.Everywhere.{EachMember}
 use Rattle.claim_tree.specs.Tree.{Text, Tree, array, object, elements_len, IsBeforeAll, IsRanged}
-use Rattle.claim_tree.specs.Lists.{StandsAt, In, Repeats, AtNone}
+use Rattle.sd_outside.specs.Lists.{StandsAt, In, Repeats, AtNone}
 use Rattle.claim_tree.specs.Path.{tree_at}
 use Rattle.digest_sites.specs.Reserved.{sd_name, text_list}
 use Rattle.digest_sites.specs.Sites.{step_text}

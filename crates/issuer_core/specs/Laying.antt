@@ -9,7 +9,7 @@ use Rattle.marked_tree.specs.Rests.{rests, AreSorted}
 use Rattle.disclosure.specs.Digest.{digest_of}
 use Rattle.disclosure.specs.Disclosure.{disclosure_text}
 use Rattle.disclosure.specs.declared.digests.HashAlg.{HashAlg}
-use Rattle.claim_tree.specs.Lists.{StandsAt}
+use Rattle.sd_outside.specs.Lists.{StandsAt}
 use Rattle.issuer_core.specs.Order.{Order}
 use Rattle.issuer_core.specs.Decoys.{decoys_of}
 use Rattle.issuer_core.specs.Digests.{Maker, hidden_of, made_texts}

@@ -2,11 +2,11 @@
 use Rattle.std.specs.Prelude.{◌≡◌, ℕ, ◌<◌, ◌≤◌, List, [], ◌∷◌, length, Option, Some, None, codes, slice_get}
 use Rattle.std.specs.Set.{distinct_count}
 use Rattle.claim_tree.specs.Tree.{Text, Tree, depth}
-use Rattle.claim_tree.specs.Lists.{IsSuchAt, In}
+use Rattle.sd_outside.specs.Lists.{IsSuchAt, In}
 use Rattle.claim_tree.specs.Path.{tree_at}
 use Rattle.sd_outside.specs.Limits.{count_max, depth_max}
-use Rattle.compact_form.specs.declared.refusal.Refusal.{Refusal}
-use Rattle.compact_form.specs.Refusal.{refusal_number}
+use Rattle.refusals.specs.declared.refusal.Refusal.{Refusal}
+use Rattle.refusals.specs.Refusal.{refusal_number}
 use Rattle.marked_tree.specs.Paths.{Path, same_path}
 use Rattle.issuer_core.specs.declared.order.Decoy.{Decoy}
 use Rattle.issuer_core.specs.declared.errors.IssueError.{IssueError}

@@ -4,7 +4,7 @@ use Rattle.std.specs.Fmt.{decimal}
 use Rattle.claim_tree.specs.Tree.{Text, leaf, text}
 use Rattle.claim_tree.specs.JsonText.{json_text}
 use Rattle.claim_tree.specs.Path.{pointer_text}
-use Rattle.compact_form.specs.RefusedText.{told_text}
+use Rattle.refusals.specs.RefusedText.{told_text}
 use Rattle.issuer_core.specs.declared.errors.IssueError.{IssueError}
 use Rattle.issuer_core.specs.declared.errors.IssueError.TheVariants.{ReservedName, RootMarked, NoSuchPlace, ProtectedClaim, DecoyPlace, DigestClash}
 use Rattle.issuer_core.specs.OrderRefusals.{refusal_of}

@@ -1,6 +1,6 @@
 // Digests that are equal.
 ghost use Rattle.std.specs.Prelude.{IfOk, IfSome, IfNone};
-ghost use Rattle.claim_tree.specs.Lists.{Repeats, AtNone};
+ghost use Rattle.sd_outside.specs.Lists.{Repeats, AtNone};
 ghost use Rattle.issuer_core.specs.Clash.{IsFirstClash};
 
 use digest_index::{DigestIndex, Steps};

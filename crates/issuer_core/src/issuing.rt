@@ -16,9 +16,9 @@ ghost use Rattle.issuer_core.specs.Issue.{HasNoClash};
 ghost use Rattle.issuer_core.specs.IssueSteps.{HasClash, AreWritten};
 ghost use Rattle.issuer_core.specs.IssueCalls.{IsNotIssued};
 ghost use Rattle.issuer_core.specs.ToSign.{IsToSign, IsNotToSign, AreUnsignedWords};
-ghost use Rattle.compact_form.specs.Lowest.{NoneApplies};
+ghost use Rattle.refusals.specs.Lowest.{NoneApplies};
 ghost use Rattle.issuer_core.specs.OrderRefusals.{AppliesToOrder};
-ghost use Rattle.claim_tree.specs.Lists.{Repeats, AtNone};
+ghost use Rattle.sd_outside.specs.Lists.{Repeats, AtNone};
 
 use crate::laying::{Laid, lay_order};
 use crate::{IssueError, Order, UnsignedToken, first_clash, judged_places};

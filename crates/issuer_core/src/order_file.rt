@@ -2,7 +2,7 @@
 ghost use Rattle.std.specs.Prelude.{◌≡◌, ◌≤◌, List, [], length, OnOk, IfOk, IfErr, IfSome, IfNone};
 ghost use Rattle.sd_outside.specs.Limits.{count_max, key_min};
 ghost use Rattle.claim_tree.specs.Tree.{IsOrdered, depth as depth_of};
-ghost use Rattle.claim_tree.specs.Lists.{In};
+ghost use Rattle.sd_outside.specs.Lists.{In};
 ghost use Rattle.claim_tree.specs.View.{tree_of};
 ghost use Rattle.claim_tree.specs.ListViews.{elements_of};
 ghost use Rattle.claim_tree.specs.FileForms.{HasValue, Says, SaysOr, MemberMeets, required, optional, found};

@@ -8,7 +8,7 @@ ghost use Rattle.issuer_core.specs.RefusalLine.{refusal_place_text, issue_refusa
 
 use crate::IssueError;
 use claim_tree::{Path, Tree, print_path, write};
-use compact_form::{Refusal, refused_line};
+use refusals::{Refusal, refused_line};
 use sd_outside::{NoMemory, TextBox};
 use std::alloc::Global;
 

@@ -12,13 +12,13 @@ use Rattle.claim_tree.specs.Tree.{Text, text, Tree, leaf, array, object, no_elem
 use Rattle.claim_tree.specs.FileForms.{text_elements}
 use Rattle.claim_tree.specs.JsonText.{elements_data, members_data, json_text}
 use Rattle.claim_tree.proofs.RoundTrip.{read_of_text}
-use Rattle.compact_form.specs.declared.condition.Condition.{Condition}
-use Rattle.compact_form.specs.Faults.{unplaced}
+use Rattle.refusals.specs.declared.condition.Condition.{Condition}
+use Rattle.refusals.specs.Faults.{unplaced}
 use Rattle.sd_outside.specs.Limits.{compact_max, count_max}
 use Rattle.compact_form.specs.Compact.{jwt, spelled, hashed, ending, compact, HasWords, AreWords}
-use Rattle.compact_form.specs.PartWords.{part_word}
-use Rattle.compact_form.specs.declared.fault.Part.{Part}
-use Rattle.compact_form.specs.declared.fault.Part.TheVariants.{Payload, Protected, Signature, Signatures, Header, Disclosures, KbJwt}
+use Rattle.refusals.specs.PartWords.{part_word}
+use Rattle.refusals.specs.declared.fault.Part.{Part}
+use Rattle.refusals.specs.declared.fault.Part.TheVariants.{Payload, Protected, Signature, Signatures, Header, Disclosures, KbJwt}
 use Rattle.compact_form.specs.declared.parts.JwtParts.{JwtParts}
 use Rattle.compact_form.specs.declared.parts.Parts.{Parts}
 use Rattle.json_form.specs.declared.token.Token.{Token}

@@ -6,8 +6,8 @@ use Rattle.claim_tree.specs.View.{tree_of}
 use Rattle.claim_tree.specs.ListViews.{elements_of}
 use Rattle.claim_tree.specs.declared.tree.Tree as tree
 use Rattle.claim_tree.proofs.Views.{element_at-there, element_at-past}
-use Rattle.compact_form.specs.PartWords.{part_word}
-use Rattle.compact_form.specs.declared.fault.Part.TheVariants.{Header}
+use Rattle.refusals.specs.PartWords.{part_word}
+use Rattle.refusals.specs.declared.fault.Part.TheVariants.{Header}
 use Rattle.json_form.specs.Json.{is_object, are_objects, has_first_only, IsStray}
 
 pub objects_of : (ts : List tree.Tree) → list_all (λ t. is_object (tree_of t)) ts ≡ are_objects (elements_of ts)

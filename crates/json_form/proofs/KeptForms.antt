@@ -6,12 +6,12 @@ use Rattle.claim_tree.specs.Tree.{Text, text, Tree, leaf, array, object, Element
 use Rattle.claim_tree.specs.Kept.{kept, kept_elements, kept_members, ReadsKept}
 use Rattle.claim_tree.specs.FileForms.{Says, SaysOr, HasValue}
 use Rattle.claim_tree.specs.JsonText.{Reads}
-use Rattle.compact_form.specs.PartWords.{part_word}
-use Rattle.compact_form.specs.declared.fault.Part.{Part}
-use Rattle.compact_form.specs.declared.fault.Part.TheVariants.{Payload, Protected, Signature, Signatures, Header}
-use Rattle.compact_form.specs.declared.fault.JsonPlace.{JsonPlace}
-use Rattle.compact_form.specs.declared.fault.JsonPlace.TheVariants.{NotObject}
-use Rattle.compact_form.specs.Lowest.{IsLowestBy}
+use Rattle.refusals.specs.PartWords.{part_word}
+use Rattle.refusals.specs.declared.fault.Part.{Part}
+use Rattle.refusals.specs.declared.fault.Part.TheVariants.{Payload, Protected, Signature, Signatures, Header}
+use Rattle.refusals.specs.declared.fault.JsonPlace.{JsonPlace}
+use Rattle.refusals.specs.declared.fault.JsonPlace.TheVariants.{NotObject}
+use Rattle.refusals.specs.Lowest.{IsLowestBy}
 use Rattle.json_form.specs.declared.token.Token.{Token}
 use Rattle.json_form.specs.declared.signatures.Entries.{Entries}
 use Rattle.json_form.specs.Json.{found_part, has_part, has_beside, has_first_only, are_objects, IsWordTree, IsObjectOf, AreEntries, IsStray, EntrySays, IsJson}

@@ -12,7 +12,7 @@ use Rattle.json.specs.Print.{quoted}
 use Rattle.claim_tree.specs.Tree.{Text, object, Members, no_members}
 use Rattle.claim_tree.specs.JsonText.{members_data, json_text}
 use Rattle.sd_outside.specs.Limits.{file_max, compact_max}
-use Rattle.compact_form.specs.declared.fault.Fault.{Fault}
+use Rattle.refusals.specs.declared.fault.Fault.{Fault}
 use Rattle.compact_form.specs.declared.parts.Parts.{Parts}
 use Rattle.compact_form.specs.Compact.{compact, AreWords}
 use Rattle.compact_form.specs.Trim.{is_blank, without_back, trimmed, is_json, is_too_long}

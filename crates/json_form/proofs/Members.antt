@@ -8,9 +8,9 @@ use Rattle.claim_tree.specs.View.{tree_of}
 use Rattle.claim_tree.specs.declared.tree.Tree as tree
 use Rattle.claim_tree.proofs.OtherMembers.{named_other, removed_absent}
 use Rattle.claim_tree.proofs.ObjectTrees.{object_inside}
-use Rattle.compact_form.specs.PartWords.{part_word}
-use Rattle.compact_form.specs.declared.fault.Part.{Part}
-use Rattle.compact_form.specs.declared.fault.Part.TheVariants.{Protected, Signature, Header}
+use Rattle.refusals.specs.PartWords.{part_word}
+use Rattle.refusals.specs.declared.fault.Part.{Part}
+use Rattle.refusals.specs.declared.fault.Part.TheVariants.{Protected, Signature, Header}
 use Rattle.json_form.specs.Json.{found_part, has_part, has_beside}
 
 pub found_here : (ms : Members) (part : Part) (word : Text) (t : spec.Tree) → word ≡ part_word part → Some t ≡ member_named ms word → found_part ms part ≡ Some t

@@ -5,17 +5,17 @@ use Rattle.claim_tree.specs.Tree.{Text, Tree, array, object, Elements, element, 
 use Rattle.claim_tree.specs.Removed.{removed}
 use Rattle.claim_tree.specs.FileForms.{Says}
 use Rattle.claim_tree.specs.JsonText.{Reads}
-use Rattle.claim_tree.specs.Lists.{IsLeast, AtNone}
+use Rattle.sd_outside.specs.Lists.{IsLeast, AtNone}
 use Rattle.claim_tree.proofs.FileVerdicts.{is_json, is_whole}
 use Rattle.claim_tree.proofs.OneTree.{one_tree}
-use Rattle.compact_form.specs.PartWords.{part_word}
-use Rattle.compact_form.specs.declared.fault.Part.TheVariants.{Payload, Protected, Signature, Signatures, Header}
-use Rattle.compact_form.specs.declared.fault.JsonPlace.{JsonPlace}
-use Rattle.compact_form.specs.declared.fault.JsonPlace.TheVariants.{NotObject, Wrong, Stray}
+use Rattle.refusals.specs.PartWords.{part_word}
+use Rattle.refusals.specs.declared.fault.Part.TheVariants.{Payload, Protected, Signature, Signatures, Header}
+use Rattle.refusals.specs.declared.fault.JsonPlace.{JsonPlace}
+use Rattle.refusals.specs.declared.fault.JsonPlace.TheVariants.{NotObject, Wrong, Stray}
 use Rattle.json_form.specs.declared.token.Token.{Token}
 use Rattle.json_form.specs.declared.signatures.Entries.{Entries}
 use Rattle.json_form.specs.Json.{found_part, has_beside, IsWordTree, AreEntries, IsStray, EntrySays, IsJson}
-use Rattle.compact_form.specs.Lowest.{IsLowestBy}
+use Rattle.refusals.specs.Lowest.{IsLowestBy}
 use Rattle.json_form.specs.JsonPlaces.{row_of, IsNoWord, IsEntry, flat, first, AreNoEntries, no_list, beside, EntryFails, ObjectFails, payload, signatures, entry, stray, JsonFails, not_json, not_whole, not_object, members, IsJsonPlace}
 use Rattle.json_form.specs.MembersRead.{IsFirstStray, ListHas, HasEntries, itself, listed, MembersSay}
 use Rattle.json_form.proofs.Members.{found_other, beside_kept}

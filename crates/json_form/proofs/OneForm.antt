@@ -6,13 +6,13 @@ use Rattle.claim_tree.specs.FileForms.{MaySay, SaysOr}
 use Rattle.claim_tree.proofs.FileVerdicts.{SaysOne, says_one, may_say_one, says_or_one, one_texts, is_json, is_whole, one_cause}
 use Rattle.claim_tree.proofs.OneTree.{one_tree}
 use Rattle.compact_form.specs.Compact.{jwt, HasWords, compact, IsCompact}
-use Rattle.compact_form.specs.PartWords.{part_word}
+use Rattle.refusals.specs.PartWords.{part_word}
 use Rattle.compact_form.specs.declared.parts.JwtParts.{JwtParts}
 use Rattle.compact_form.specs.declared.parts.Parts.{Parts}
-use Rattle.compact_form.specs.declared.fault.Part.{Part}
-use Rattle.compact_form.specs.declared.fault.Part.TheVariants.{Payload, Protected, Signature, Header, Disclosures, KbJwt}
-use Rattle.compact_form.specs.declared.fault.JsonPlace.{JsonPlace}
-use Rattle.compact_form.specs.declared.fault.JsonPlace.TheVariants.{Missing, Wrong, Stray}
+use Rattle.refusals.specs.declared.fault.Part.{Part}
+use Rattle.refusals.specs.declared.fault.Part.TheVariants.{Payload, Protected, Signature, Header, Disclosures, KbJwt}
+use Rattle.refusals.specs.declared.fault.JsonPlace.{JsonPlace}
+use Rattle.refusals.specs.declared.fault.JsonPlace.TheVariants.{Missing, Wrong, Stray}
 use Rattle.compact_form.proofs.Unique.{one_spelling}
 use Rattle.json_form.specs.declared.token.Token.{Token}
 use Rattle.json_form.specs.Json.{found_part, IsWordTree, AreWordTrees, IsJwtTree, IsObjectOf, EntrySays, IsJson}

@@ -3,15 +3,15 @@ use Rattle.std.proofs.Common.{◌≡◌, ◌≤◌, List, [], Option, Some, None
 use Rattle.claim_tree.specs.Tree.{Text, Tree, object, Members, no_members}
 use Rattle.claim_tree.specs.Removed.{removed}
 use Rattle.claim_tree.specs.FileForms.{Says, MaySay, SaysOr, HasValue}
-use Rattle.compact_form.specs.PartWords.{part_word}
-use Rattle.compact_form.specs.declared.fault.Part.{Part}
-use Rattle.compact_form.specs.declared.fault.Part.TheVariants.{Protected, Signature, Header, Disclosures, KbJwt}
-use Rattle.compact_form.specs.declared.fault.JsonPlace.{JsonPlace}
-use Rattle.compact_form.specs.declared.fault.JsonPlace.TheVariants.{Wrong}
+use Rattle.refusals.specs.PartWords.{part_word}
+use Rattle.refusals.specs.declared.fault.Part.{Part}
+use Rattle.refusals.specs.declared.fault.Part.TheVariants.{Protected, Signature, Header, Disclosures, KbJwt}
+use Rattle.refusals.specs.declared.fault.JsonPlace.{JsonPlace}
+use Rattle.refusals.specs.declared.fault.JsonPlace.TheVariants.{Wrong}
 use Rattle.json_form.specs.declared.token.Token.{Token}
 use Rattle.json_form.specs.declared.json_error.JsonFormError.{JsonFormError}
 use Rattle.json_form.specs.Json.{found_part, IsWordTree, AreWordTrees, IsJwtTree, IsObjectOf, EntrySays}
-use Rattle.compact_form.specs.Lowest.{IsLowestBy}
+use Rattle.refusals.specs.Lowest.{IsLowestBy}
 use Rattle.json_form.specs.JsonPlaces.{part_row, row_of, IsNoWord, missing, other, IsWrongMember, EntryFails, protected, signature, header, disclosures, kb_jwt}
 use Rattle.json_form.proofs.Members.{found_other}
 

@@ -4,13 +4,13 @@ use Rattle.std.specs.Prelude.{◌&&◌, not, nat_lt}
 use Rattle.std.proofs.lemmas.Bool.{lt-ltb, le-ltb}
 use Rattle.claim_tree.specs.Tree.{Members, no_members}
 use Rattle.sd_outside.specs.Limits.{file_max, compact_max}
-use Rattle.compact_form.specs.declared.condition.Condition.{Condition}
-use Rattle.compact_form.specs.Faults.{fault_number, fault_at, placed, unplaced}
-use Rattle.compact_form.specs.Condition.{number_of}
-use Rattle.compact_form.specs.declared.fault.Fault.{Fault}
-use Rattle.compact_form.specs.declared.fault.Place.{Place}
-use Rattle.compact_form.specs.declared.fault.Place.TheVariants.{Nowhere, At, Json}
-use Rattle.compact_form.specs.declared.fault.JsonPlace.{JsonPlace}
+use Rattle.refusals.specs.declared.condition.Condition.{Condition}
+use Rattle.refusals.specs.Faults.{fault_number, fault_at, placed, unplaced}
+use Rattle.refusals.specs.Condition.{number_of}
+use Rattle.refusals.specs.declared.fault.Fault.{Fault}
+use Rattle.refusals.specs.declared.fault.Place.{Place}
+use Rattle.refusals.specs.declared.fault.Place.TheVariants.{Nowhere, At, Json}
+use Rattle.refusals.specs.declared.fault.JsonPlace.{JsonPlace}
 use Rattle.compact_form.specs.declared.parts.Parts.{Parts}
 use Rattle.compact_form.specs.Compact.{compact, IsCompact}
 use Rattle.compact_form.specs.Trim.{trimmed, is_json, is_too_long}

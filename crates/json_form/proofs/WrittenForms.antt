@@ -10,9 +10,9 @@ use Rattle.claim_tree.specs.JsonText.{Reads}
 use Rattle.claim_tree.proofs.Datas.{MembersRanged-inserted}
 use Rattle.claim_tree.proofs.OtherMembers.{named_other, named_gone, removed_absent, depth-removed, depth-member_named, named_inserted, other_inserted, removed_inserted, depth-inserted}
 use Rattle.compact_form.specs.Compact.{jwt, HasWords, AreWords}
-use Rattle.compact_form.specs.PartWords.{part_word}
+use Rattle.refusals.specs.PartWords.{part_word}
 use Rattle.compact_form.specs.declared.parts.JwtParts.{JwtParts}
-use Rattle.compact_form.specs.declared.fault.Part.TheVariants.{Payload, Protected, Signature, Signatures, Header, Disclosures, KbJwt}
+use Rattle.refusals.specs.declared.fault.Part.TheVariants.{Payload, Protected, Signature, Signatures, Header, Disclosures, KbJwt}
 use Rattle.json_form.specs.declared.token.Token.{Token}
 use Rattle.json_form.specs.declared.signatures.Entries.{Entries}
 use Rattle.json_form.specs.Json.{found_part, IsWordTree, AreWordTrees, IsJwtTree, IsObjectOf, HeaderSays, EntrySays, IsStray, IsFlat, IsGeneral}

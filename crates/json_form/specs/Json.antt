@@ -9,10 +9,10 @@ use Rattle.claim_tree.specs.Removed.{removed}
 use Rattle.claim_tree.specs.FileForms.{IsTexts, Says, MaySay, SaysOr}
 use Rattle.claim_tree.specs.JsonText.{Reads}
 use Rattle.compact_form.specs.Compact.{jwt, HasWords}
-use Rattle.compact_form.specs.PartWords.{part_word}
+use Rattle.refusals.specs.PartWords.{part_word}
 use Rattle.compact_form.specs.declared.parts.JwtParts.{JwtParts}
-use Rattle.compact_form.specs.declared.fault.Part.TheVariants.{Payload, Protected, Signature, Signatures, Header, Disclosures, KbJwt}
-use Rattle.compact_form.specs.declared.fault.Part.{Part}
+use Rattle.refusals.specs.declared.fault.Part.TheVariants.{Payload, Protected, Signature, Signatures, Header, Disclosures, KbJwt}
+use Rattle.refusals.specs.declared.fault.Part.{Part}
 use Rattle.json_form.specs.declared.token.Token.{Token}
 
 abbrev pub found_part : Members → Part → Option Tree

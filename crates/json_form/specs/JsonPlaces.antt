@@ -4,11 +4,11 @@ use Rattle.std.specs.Prelude.{◌≡◌, ◌≢◌, ◌+◌, ℕ, true, Some, No
 use Rattle.claim_tree.specs.Tree.{Text, Tree, array, object, Elements, element, Members}
 use Rattle.claim_tree.specs.FileForms.{HasValue}
 use Rattle.claim_tree.specs.JsonText.{Reads, IsNotJson, IsNotWhole}
-use Rattle.compact_form.specs.declared.fault.Part.TheVariants.{Payload, Protected, Signature, Signatures, Header, Disclosures, KbJwt}
-use Rattle.compact_form.specs.declared.fault.Part.{Part}
-use Rattle.compact_form.specs.declared.fault.JsonPlace.{JsonPlace}
-use Rattle.compact_form.specs.declared.fault.JsonPlace.TheVariants.{NotJson, NotWhole, NotObject, Missing, Wrong, Stray}
-use Rattle.compact_form.specs.Lowest.{IsLowestBy}
+use Rattle.refusals.specs.declared.fault.Part.TheVariants.{Payload, Protected, Signature, Signatures, Header, Disclosures, KbJwt}
+use Rattle.refusals.specs.declared.fault.Part.{Part}
+use Rattle.refusals.specs.declared.fault.JsonPlace.{JsonPlace}
+use Rattle.refusals.specs.declared.fault.JsonPlace.TheVariants.{NotJson, NotWhole, NotObject, Missing, Wrong, Stray}
+use Rattle.refusals.specs.Lowest.{IsLowestBy}
 use Rattle.json_form.specs.Json.{found_part, has_beside, IsWordTree, AreWordTrees, IsJwtTree, IsObjectOf, AreEntries, IsStray}
 
 -- ---- the order

@@ -2,13 +2,13 @@
 use Rattle.std.specs.Prelude.{◌≡◌, ℕ, false, Option, Some, None}
 use Rattle.claim_tree.specs.Tree.{Tree, object, Elements, element, Members}
 use Rattle.claim_tree.specs.FileForms.{Says}
-use Rattle.claim_tree.specs.Lists.{IsLeast, AtNone}
+use Rattle.sd_outside.specs.Lists.{IsLeast, AtNone}
 use Rattle.claim_tree.specs.declared.text.ReadError.{ReadError}
-use Rattle.compact_form.specs.declared.fault.Part.TheVariants.{Payload, Signatures}
-use Rattle.compact_form.specs.Faults.{fault_at}
-use Rattle.compact_form.specs.declared.condition.Condition.{Condition}
-use Rattle.compact_form.specs.declared.fault.Place.TheVariants.{Json}
-use Rattle.compact_form.specs.declared.fault.JsonPlace.TheVariants.{NotJson, NotWhole}
+use Rattle.refusals.specs.declared.fault.Part.TheVariants.{Payload, Signatures}
+use Rattle.refusals.specs.Faults.{fault_at}
+use Rattle.refusals.specs.declared.condition.Condition.{Condition}
+use Rattle.refusals.specs.declared.fault.Place.TheVariants.{Json}
+use Rattle.refusals.specs.declared.fault.JsonPlace.TheVariants.{NotJson, NotWhole}
 use Rattle.json_form.specs.declared.token.Token.{Token}
 use Rattle.json_form.specs.declared.token.TokenError.{TokenError}
 use Rattle.json_form.specs.declared.signatures.Entries.{Entries}

@@ -2,7 +2,7 @@
 use Rattle.std.specs.Prelude.{◌≡◌, ◌≤◌, None}
 use Rattle.claim_tree.specs.Tree.{members_depth}
 use Rattle.compact_form.specs.Compact.{AreWords}
-use Rattle.compact_form.specs.declared.fault.Part.TheVariants.{Disclosures, KbJwt}
+use Rattle.refusals.specs.declared.fault.Part.TheVariants.{Disclosures, KbJwt}
 use Rattle.json_form.specs.declared.token.Token.{Token}
 use Rattle.json_form.specs.Json.{found_part}
 

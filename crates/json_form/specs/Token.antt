@@ -3,14 +3,14 @@
 use Rattle.std.specs.Prelude.{◌≡◌, ◌<◌, ◌⊎◌, ℕ, true, false, List, length}
 use Rattle.claim_tree.specs.Tree.{no_members}
 use Rattle.sd_outside.specs.Limits.{compact_max, count_max}
-use Rattle.compact_form.specs.declared.condition.Condition.{Condition}
-use Rattle.compact_form.specs.Faults.{fault_number, fault_at, unplaced}
-use Rattle.compact_form.specs.declared.fault.Fault.{Fault}
-use Rattle.compact_form.specs.declared.fault.Place.{Place}
-use Rattle.compact_form.specs.declared.fault.Place.TheVariants.{At, Json}
-use Rattle.compact_form.specs.declared.fault.JsonPlace.{JsonPlace}
+use Rattle.refusals.specs.declared.condition.Condition.{Condition}
+use Rattle.refusals.specs.Faults.{fault_number, fault_at, unplaced}
+use Rattle.refusals.specs.declared.fault.Fault.{Fault}
+use Rattle.refusals.specs.declared.fault.Place.{Place}
+use Rattle.refusals.specs.declared.fault.Place.TheVariants.{At, Json}
+use Rattle.refusals.specs.declared.fault.JsonPlace.{JsonPlace}
 use Rattle.compact_form.specs.declared.parts.Parts.{Parts}
-use Rattle.compact_form.specs.Lowest.{IsLowestBy, NoneApplies}
+use Rattle.refusals.specs.Lowest.{IsLowestBy, NoneApplies}
 use Rattle.compact_form.specs.Compact.{compact, IsCompact, IsMisformedAt}
 use Rattle.compact_form.specs.Trim.{trimmed, is_json, is_too_long}
 use Rattle.json_form.specs.declared.token.Token.{Token}

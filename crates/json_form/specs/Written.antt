@@ -4,9 +4,9 @@ use Rattle.std.specs.Prelude.{Option, Some, None}
 use Rattle.claim_tree.specs.Tree.{text, Tree, leaf, array, object, no_elements, element, Members, no_members, member, inserted}
 use Rattle.claim_tree.specs.FileForms.{text_elements}
 use Rattle.compact_form.specs.Compact.{jwt}
-use Rattle.compact_form.specs.PartWords.{part_word}
+use Rattle.refusals.specs.PartWords.{part_word}
 use Rattle.compact_form.specs.declared.parts.JwtParts.{JwtParts}
-use Rattle.compact_form.specs.declared.fault.Part.TheVariants.{Payload, Protected, Signature, Signatures, Header, Disclosures, KbJwt}
+use Rattle.refusals.specs.declared.fault.Part.TheVariants.{Payload, Protected, Signature, Signatures, Header, Disclosures, KbJwt}
 use Rattle.json_form.specs.declared.token.Token.{Token}
 
 -- the members, with the key binding token where there is one

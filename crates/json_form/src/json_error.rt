@@ -2,7 +2,7 @@
 ghost use Rattle.std.specs.Prelude.{◌≡◌};
 
 use claim_tree::ReadError;
-use compact_form::JsonPlace;
+use refusals::JsonPlace;
 use sd_outside::NoMemory;
 
 /// Why a text is not read as a JSON serialization.

@@ -1,7 +1,7 @@
 //! What the definitions of tokens say together. Each law holds for every value.
 ghost use Rattle.std.specs.Prelude.{◌≡◌, ℕ, List};
-ghost use Rattle.compact_form.specs.declared.fault.Fault.{Fault};
-ghost use Rattle.compact_form.specs.declared.fault.JsonPlace.{JsonPlace};
+ghost use Rattle.refusals.specs.declared.fault.Fault.{Fault};
+ghost use Rattle.refusals.specs.declared.fault.JsonPlace.{JsonPlace};
 ghost use Rattle.json_form.specs.declared.token.Token.{Token};
 ghost use Rattle.json_form.specs.Token.{IsToken, IsTextRefused};
 ghost use Rattle.json_form.specs.Json.{IsJson};

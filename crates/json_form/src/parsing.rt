@@ -1,8 +1,8 @@
 // The token that a text in a JSON form holds (RFC 9901 section 8).
 ghost use Rattle.std.specs.Prelude.{IfOk, IsErrOf};
-ghost use Rattle.compact_form.specs.declared.fault.JsonPlace.{JsonPlace as ThePlace};
+ghost use Rattle.refusals.specs.declared.fault.JsonPlace.{JsonPlace as ThePlace};
 ghost use Rattle.json_form.specs.Json.{IsJson};
-ghost use Rattle.compact_form.specs.Lowest.{IsLowestBy};
+ghost use Rattle.refusals.specs.Lowest.{IsLowestBy};
 ghost use Rattle.json_form.specs.JsonPlaces.{row_of, ObjectFails, IsJsonPlace};
 ghost use Rattle.json_form.specs.MembersRead.{MembersSay};
 ghost use Rattle.json_form.specs.Printable.{IsPrintable};
@@ -11,7 +11,7 @@ use crate::signature_entry::{read_entry, take_word};
 use crate::signatures::entries_of;
 use crate::{JsonFormError, Token};
 use claim_tree::{JsonReader, Tree, TreeMap};
-use compact_form::{JsonPlace, Part};
+use refusals::{JsonPlace, Part};
 use std::alloc::Global;
 
 // The token that the members of an object say.

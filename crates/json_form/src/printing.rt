@@ -4,7 +4,7 @@ ghost use Rattle.claim_tree.specs.Tree.{leaf, text as text_leaf, inserted, membe
 ghost use Rattle.claim_tree.specs.FileForms.{text_elements};
 ghost use Rattle.claim_tree.specs.JsonText.{json_text};
 ghost use Rattle.claim_tree.specs.View.{tree_of};
-ghost use Rattle.compact_form.specs.PartWords.{part_word};
+ghost use Rattle.refusals.specs.PartWords.{part_word};
 ghost use Rattle.json_form.specs.Json.{IsFlat, IsGeneral};
 ghost use Rattle.json_form.specs.Written as spec;
 ghost use Rattle.json_form.specs.Written.{flat_of, general_of};
@@ -12,7 +12,8 @@ ghost use Rattle.json_form.specs.Printable.{IsPrintable};
 
 use crate::{Disclosures, Token, TokenView};
 use claim_tree::{Tree, TreeList, TreeMap, copy_members, write};
-use compact_form::{Part, print_jwt};
+use compact_form::print_jwt;
+use refusals::Part;
 use sd_outside::{NoMemory, TextBox};
 use std::alloc::Global;
 

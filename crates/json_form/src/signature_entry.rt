@@ -3,17 +3,18 @@ ghost use Rattle.std.specs.Prelude.{◌≡◌, [], IfOk, IfErr, IsErrOf};
 ghost use Rattle.claim_tree.specs.Tree.{no_members};
 ghost use Rattle.claim_tree.specs.Removed.{removed};
 ghost use Rattle.claim_tree.specs.FileForms.{Says, MaySay, SaysOr};
-ghost use Rattle.compact_form.specs.PartWords.{part_word};
-ghost use Rattle.compact_form.specs.declared.fault.JsonPlace.{JsonPlace as ThePlace};
-ghost use Rattle.compact_form.specs.declared.fault.Part.TheVariants.{Header, Disclosures, KbJwt};
+ghost use Rattle.refusals.specs.PartWords.{part_word};
+ghost use Rattle.refusals.specs.declared.fault.JsonPlace.{JsonPlace as ThePlace};
+ghost use Rattle.refusals.specs.declared.fault.Part.TheVariants.{Header, Disclosures, KbJwt};
 ghost use Rattle.json_form.specs.Json.{found_part, IsWordTree, AreWordTrees, IsJwtTree, IsObjectOf, EntrySays};
-ghost use Rattle.compact_form.specs.Lowest.{IsLowestBy};
+ghost use Rattle.refusals.specs.Lowest.{IsLowestBy};
 ghost use Rattle.json_form.specs.JsonPlaces.{row_of, IsNoWord, IsWrongMember, EntryFails};
 
 use crate::member_values::{jwt_in, word_in, words_in};
 use crate::{JsonFormError, Token};
 use claim_tree::{Tree, TreeMap};
-use compact_form::{JsonPlace, JwtParts, Part, Parts};
+use compact_form::{JwtParts, Parts};
+use refusals::{JsonPlace, Part};
 use sd_outside::{TextBox, TextList};
 use std::alloc::Global;
 

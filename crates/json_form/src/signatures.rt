@@ -4,16 +4,16 @@ ghost use Rattle.std.specs.Prelude.{◌≡◌, IfOk, IfErr, IfSome, IfNone};
 ghost use Rattle.claim_tree.specs.Tree.{Elements, Members, get as get_of};
 ghost use Rattle.claim_tree.specs.View.{tree_of};
 ghost use Rattle.claim_tree.specs.ListViews.{elements_of};
-ghost use Rattle.compact_form.specs.PartWords.{part_word};
-ghost use Rattle.compact_form.specs.declared.fault.JsonPlace.TheVariants.{Wrong};
-ghost use Rattle.compact_form.specs.declared.fault.Part.TheVariants.{Header, Signatures};
+ghost use Rattle.refusals.specs.PartWords.{part_word};
+ghost use Rattle.refusals.specs.declared.fault.JsonPlace.TheVariants.{Wrong};
+ghost use Rattle.refusals.specs.declared.fault.Part.TheVariants.{Header, Signatures};
 ghost use Rattle.json_form.specs.Json as spec;
 ghost use Rattle.json_form.specs.Json.{AreEntries};
 ghost use Rattle.json_form.specs.JsonPlaces.{AreNoEntries};
 ghost use Rattle.json_form.specs.MembersRead.{IsFirstStray, ListHas, HasEntries};
 
 use claim_tree::{Tree, TreeMap, get};
-use compact_form::{JsonPlace, Part};
+use refusals::{JsonPlace, Part};
 
 // The entry that is read, and the place of the first later one with a member
 // that only the first may have.

@@ -1,12 +1,13 @@
 // A token in whichever of the three forms it came.
 ghost use Rattle.std.specs.Prelude.{◌≡◌, IfOk, IsErrOf};
-ghost use Rattle.compact_form.specs.declared.fault.Fault.{Fault as TheFault};
+ghost use Rattle.refusals.specs.declared.fault.Fault.{Fault as TheFault};
 ghost use Rattle.json_form.specs.Token.{IsToken, IsTextRefused};
 ghost use Rattle.json_form.specs.Printable.{IsPrintable};
 
 use crate::{JsonFormError, TokenText, TokenView};
 use claim_tree::TreeMap;
-use compact_form::{Condition, Fault, Parts, Place};
+use compact_form::Parts;
+use refusals::{Condition, Fault, Place};
 use sd_outside::NoMemory;
 use std::alloc::Global;
 

@@ -2,7 +2,7 @@
 ghost use Rattle.std.specs.Prelude.{◌≡◌, ◌≢◌, true, false, IfOk, IfSome, IfNone, IsErrOf};
 ghost use Rattle.compact_form.specs.Compact.{hashed as hashed_of, AreWords, IsCompact};
 ghost use Rattle.compact_form.specs.Trim.{trimmed, is_json as is_json_test};
-ghost use Rattle.compact_form.specs.declared.fault.Fault.{Fault as TheFault};
+ghost use Rattle.refusals.specs.declared.fault.Fault.{Fault as TheFault};
 ghost use Rattle.compact_form.specs.declared.parts.Parts.{Parts as SeenParts};
 ghost use Rattle.json_form.specs.Token.{IsToken, IsTextRefused, IsTooMuch};
 ghost use Rattle.json_form.specs.Printable.{IsPrintable};
@@ -10,8 +10,9 @@ ghost use Rattle.json_form.specs.Printable.{IsPrintable};
 use crate::{Token, TokenError, TokenView, parse_json};
 use claim_tree::TreeMap;
 use compact_form::{
-    COMPACT_MAX, COUNT_MAX, Condition, FILE_MAX, Parts, View, is_json, print, read_view, trim,
+    COMPACT_MAX, COUNT_MAX, FILE_MAX, Parts, View, is_json, print, read_view, trim,
 };
+use refusals::Condition;
 use sd_outside::{NoMemory, TextBox};
 use std::alloc::Global;
 use std::marker::Model;

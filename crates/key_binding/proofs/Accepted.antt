@@ -2,9 +2,9 @@
 use Rattle.std.proofs.Common.{◌≡◌, inl, inr, ℕ, pos, ◌+◌, ◌<◌, ◌≤◌, List, Some, None, codes, refl, sym, subst, ◌∙◌, arith}
 use Rattle.std.proofs.Math.Facts.{ltb_yes}
 use Rattle.b64url_text.specs.Base64url.{AreBytes, b64}
-use Rattle.claim_tree.specs.Lists.{In}
+use Rattle.sd_outside.specs.Lists.{In}
 use Rattle.claim_tree.specs.Tree.{Text, Tree, object}
-use Rattle.compact_form.specs.Lowest.{NoneFails}
+use Rattle.refusals.specs.Lowest.{NoneFails}
 use Rattle.hmac_sign.specs.Hmac.{IsGood, IsGoodText, hs256_key}
 use Rattle.hmac_sign.specs.Signatures.{Meaning}
 use Rattle.hmac_sign.proofs.Macs.{AreBytes-mac}

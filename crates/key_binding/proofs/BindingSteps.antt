@@ -1,14 +1,14 @@
 -- The conditions on a key binding token, passed one after another.
 use Rattle.std.proofs.Common.{◌≡◌, ◌≢◌, ℤ, ◌<◌, inl, inr, Option, Some, codes, refl, sym, ap, subst, ◌∙◌, arith, rules}
 use Rattle.claim_tree.specs.Tree.{Text, Tree, leaf, whole, no_members}
-use Rattle.compact_form.specs.declared.fault.Place.{Place}
-use Rattle.compact_form.specs.declared.fault.Place.TheVariants.{Nowhere}
-use Rattle.compact_form.specs.declared.condition.Condition.{Condition}
-use Rattle.compact_form.specs.Condition.{number_of}
-use Rattle.compact_form.specs.Lowest.{IsLowest, NoneFails}
-use Rattle.compact_form.specs.Faults.{unplaced}
-use Rattle.compact_form.specs.Passing.{Passes}
-use Rattle.compact_form.proofs.Lowest.{holds_too, none_fails, refuse_unplaced}
+use Rattle.refusals.specs.declared.fault.Place.{Place}
+use Rattle.refusals.specs.declared.fault.Place.TheVariants.{Nowhere}
+use Rattle.refusals.specs.declared.condition.Condition.{Condition}
+use Rattle.refusals.specs.Condition.{number_of}
+use Rattle.refusals.specs.Lowest.{IsLowest, NoneFails}
+use Rattle.refusals.specs.Faults.{unplaced}
+use Rattle.refusals.specs.Passing.{Passes}
+use Rattle.refusals.proofs.Lowest.{holds_too, none_fails, refuse_unplaced}
 use Rattle.disclosure.specs.Digest.{digest_of}
 use Rattle.jws_part.specs.declared.header.Header.{Header}
 use Rattle.jws_part.specs.Header.{text_tree}
@@ -16,7 +16,7 @@ use Rattle.jws_part.specs.Part.{IsBody, IsNoObject}
 use Rattle.jws_part.proofs.Headers as headers
 use Rattle.jws_part.proofs.Parts as bodies
 use Rattle.key_binding.specs.Binding.{Claims}
-use Rattle.claim_tree.specs.Lists.{In}
+use Rattle.sd_outside.specs.Lists.{In}
 use Rattle.key_binding.specs.Judged.{Judged, HasBindingHeader, HasClaims, PayloadSays}
 use Rattle.key_binding.specs.BindingConditions.{BindingFails, OfClaims, IsHolderAlgRefused, IsHolderUnknown, IsBadBindingSignature, IsStale, IsEarly, IsTimeRefused}
 

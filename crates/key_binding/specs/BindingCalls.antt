@@ -1,9 +1,9 @@
 -- Not needed to believe the program's promises: what the check of a key binding token answers.
 use Rattle.std.specs.Prelude.{◌≡◌, ℕ}
-use Rattle.compact_form.specs.declared.condition.Condition.{Condition}
-use Rattle.compact_form.specs.Condition.{number_of}
-use Rattle.compact_form.specs.Faults.{unplaced}
-use Rattle.compact_form.specs.Lowest.{IsLowest}
+use Rattle.refusals.specs.declared.condition.Condition.{Condition}
+use Rattle.refusals.specs.Condition.{number_of}
+use Rattle.refusals.specs.Faults.{unplaced}
+use Rattle.refusals.specs.Lowest.{IsLowest}
 use Rattle.key_binding.specs.declared.errors.BindingError.{BindingError}
 use Rattle.key_binding.specs.declared.errors.BoundError.{BoundError}
 use Rattle.key_binding.specs.Judged.{Judged}

@@ -1,10 +1,10 @@
 -- What fails each condition on a key binding token, RFC 9901 section 7.3.
 use Rattle.std.specs.Prelude.{◌≡◌, ◌≢◌, ℕ, ◌⊎◌, ℤ, pos, ◌+ℤ◌, ◌<ℤ◌, List, Some, None, codes}
-use Rattle.claim_tree.specs.Lists.{In}
+use Rattle.sd_outside.specs.Lists.{In}
 use Rattle.claim_tree.specs.Tree.{Text, Tree, no_members}
-use Rattle.compact_form.specs.declared.condition.Condition.{Condition}
-use Rattle.compact_form.specs.Lowest.{Unplaced}
-use Rattle.compact_form.specs.declared.fault.Place.{Place}
+use Rattle.refusals.specs.declared.condition.Condition.{Condition}
+use Rattle.refusals.specs.Lowest.{Unplaced}
+use Rattle.refusals.specs.declared.fault.Place.{Place}
 use Rattle.disclosure.specs.Digest.{digest_of}
 use Rattle.hmac_sign.specs.Hmac.{IsGoodText, hs256_key}
 use Rattle.jws_part.specs.declared.header.Header.{Header}

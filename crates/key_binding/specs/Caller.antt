@@ -3,7 +3,7 @@ use Rattle.std.specs.Prelude.{◌≡◌, ℕ, ◌⊎◌, true, List, [], Option,
 use Rattle.std.specs.List.{starts_with}
 use Rattle.b64url_text.specs.Base64url.{Decodes}
 use Rattle.claim_tree.specs.Tree.{Text}
-use Rattle.claim_tree.specs.Lists.{In}
+use Rattle.sd_outside.specs.Lists.{In}
 use Rattle.key_binding.specs.declared.caller.SignatureAnswer.{SignatureAnswer}
 
 -- the algorithms that are taken, and what is said of the signature, where it was asked

@@ -3,7 +3,6 @@ ghost use Rattle.std.specs.Prelude.{◌↔◌, IsTrue, IfOk};
 ghost use Rattle.key_binding.specs.Caller.{IsNeverTaken, IsAlgUntaken, IsUnknownTo, IsBadTo};
 ghost use Rattle.key_binding.specs.CallerSeen.{Tells, caller_of};
 
-use crate::is_among;
 use b64url_text::{DecodeError, decode};
 use sd_outside::{NoMemory, TextList};
 use std::alloc::Global;
@@ -44,7 +43,7 @@ impl Caller<'_> {
     pub fn refuses(self, alg: &str) -> bool
         ensures { IsTrue result ↔ IsAlgUntaken (caller_of self.entry) alg.now }
     {
-        is_never_taken(alg) || !is_among(self.algs, alg)
+        is_never_taken(alg) || !self.algs.contains(alg)
     }
 
     /// What it says of the signature of this base64url text. Where it says nothing, or the text is

@@ -1,8 +1,8 @@
 // Why no key binding token is made, and what one that is read lacks.
 ghost use Rattle.std.specs.Prelude.{◌≡◌};
 
-use compact_form::Condition;
 use hmac_sign::SignError;
+use refusals::Condition;
 use sd_outside::NoMemory;
 
 /// Why no key binding token is written.

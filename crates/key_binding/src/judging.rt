@@ -3,11 +3,11 @@ ghost use Rattle.std.specs.Prelude.{◌≡◌, ◌↔◌, Some, codes, IsTrue, O
 ghost use Rattle.std.specs.Option.{option_copied};
 ghost use Rattle.claim_tree.specs.Tree.{InRange, no_members};
 ghost use Rattle.claim_tree.specs.View.{tree_of};
-ghost use Rattle.compact_form.specs.Condition.{number_of};
+ghost use Rattle.refusals.specs.Condition.{number_of};
 ghost use Rattle.compact_form.specs.Views.{jwt_of};
-ghost use Rattle.compact_form.specs.declared.condition.Condition.{Condition};
-ghost use Rattle.compact_form.specs.Lowest.{NoneFails};
-ghost use Rattle.compact_form.specs.Passing.{Passes};
+ghost use Rattle.refusals.specs.declared.condition.Condition.{Condition};
+ghost use Rattle.refusals.specs.Lowest.{NoneFails};
+ghost use Rattle.refusals.specs.Passing.{Passes};
 ghost use Rattle.disclosure.specs.Digest.{digest_of};
 ghost use Rattle.jws_part.specs.Header.{IsHeader, IsHeaderUnreadable, IsHeaderCritical};
 ghost use Rattle.jws_part.specs.Part.{IsBody};
@@ -22,16 +22,16 @@ use crate::holder::holder_key;
 use crate::reading::{Claims, read_claims};
 use crate::{
     BindingError, BindingPolicy, BindingRules, BoundError, Caller, Holders, SignatureAnswer,
-    is_among,
 };
 use claim_tree::{JsonReader, Tree, TreeMap};
-use compact_form::{Condition, JwtParts, JwtView};
+use compact_form::{JwtParts, JwtView};
 use disclosure::{HashAlg, digest};
 use hmac_sign::Hs256Key;
 use jws_part::{
     BodyError, Header, HeaderError, is_expired, is_not_yet, is_time_unreadable, read_body_with,
     read_header_with,
 };
+use refusals::Condition;
 use sd_outside::{NoMemory, TextBox};
 use std::alloc::Global;
 
@@ -309,7 +309,7 @@ fn check_claims(bound: Bound<'_>, claims: Claims<'_>) -> Result<(), Condition>
     if claims.nonce != bound.rules.nonce.as_str() {
         return Err(Condition::NonceDiffers);
     }
-    if !is_among(&bound.rules.aud, claims.aud) {
+    if !bound.rules.aud.contains(claims.aud) {
         return Err(Condition::AudienceDiffers);
     }
     Ok(())

@@ -1,10 +1,10 @@
 //! What the definitions of both ends say together. Each law holds for every value.
 ghost use Rattle.std.specs.Prelude.{◌≡◌, ◌<◌, ◌≤◌, ◌^◌, ◌+◌, ℕ, List, Some, length, codes};
-ghost use Rattle.claim_tree.specs.Lists.{In};
+ghost use Rattle.sd_outside.specs.Lists.{In};
 ghost use Rattle.compact_form.specs.Compact.{jwt};
-ghost use Rattle.compact_form.specs.declared.condition.Condition.{Condition};
-ghost use Rattle.compact_form.specs.Condition.{number_of};
-ghost use Rattle.compact_form.specs.Lowest.{NoneFails};
+ghost use Rattle.refusals.specs.declared.condition.Condition.{Condition};
+ghost use Rattle.refusals.specs.Condition.{number_of};
+ghost use Rattle.refusals.specs.Lowest.{NoneFails};
 ghost use Rattle.compact_form.specs.declared.parts.JwtParts.{JwtParts};
 ghost use Rattle.disclosure.specs.declared.digests.HashAlg.{HashAlg};
 ghost use Rattle.hmac_sign.specs.Hmac.{IsGood, hs256_key};

@@ -7,7 +7,6 @@
 //! section 3.4), or is the caller's, who checks signatures itself.
 #![tactic(auto)]
 
-mod among;
 mod caller;
 mod errors;
 mod holder;
@@ -18,7 +17,6 @@ mod reading;
 mod short_text;
 mod writing;
 
-pub use among::is_among;
 pub use caller::{Caller, SignatureAnswer};
 pub use errors::{BindError, BindingError, BoundError};
 pub use holder::holder_kid;

@@ -4,10 +4,10 @@ use Rattle.std.proofs.lemmas.List.{length-append, length-map}
 use Rattle.claim_tree.specs.Tree.{Text, Tree, leaf, array, object, Elements, no_elements, element, Members, no_members, member}
 use Rattle.marked_tree.specs.Marked.{Marked}
 use Rattle.marked_tree.specs.Ways.{only, own_path, closing, closing_elements, closing_members}
-use Rattle.claim_tree.specs.Lists.{StandsAt, In}
+use Rattle.sd_outside.specs.Lists.{StandsAt, In}
 use Rattle.marked_tree.specs.Paths.{Path, Spot, inside, own_spot, spots, elements_spots, members_spots, below, one_if, hidden_in, hidden_elements, hidden_members, mark_if, mark_from, mark_elements, mark_members, is_among, mark, hidden_count}
 use Rattle.marked_tree.specs.Laws.{MarksClose}
-use Rattle.claim_tree.proofs.Lists.{In-left, In-right, In-map, At-of_map, At-either}
+use Rattle.sd_outside.proofs.Lists.{In-left, In-right, In-map, At-of_map, At-either}
 use Rattle.marked_tree.proofs.MarkFacts.{marks_once_holds, up_to_le}
 use Rattle.marked_tree.proofs.Spots.{spots_weigh, first_is}
 

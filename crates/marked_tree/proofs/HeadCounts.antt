@@ -3,7 +3,7 @@ use Rattle.std.proofs.Common.{◌≡◌, ℕ, zero, suc, ◌+◌, ◌<◌, ◌�
 use Rattle.std.specs.Prelude.{bytes_eq}
 use Rattle.std.proofs.lemmas.Fmt.{decimal_injective}
 use Rattle.claim_tree.specs.Tree.{Text, Members, no_members, member, names, IsBeforeAll, MembersOrdered}
-use Rattle.claim_tree.proofs.Lists.{bytes_same}
+use Rattle.sd_outside.proofs.Lists.{bytes_same}
 use Rattle.marked_tree.specs.Paths.{Path, one_if, is_among}
 use Rattle.marked_tree.specs.Rests.{headed, inner}
 use Rattle.marked_tree.proofs.Names.{Ascend}

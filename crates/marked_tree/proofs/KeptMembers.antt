@@ -2,7 +2,7 @@
 use Rattle.std.proofs.Common.{◌≡◌, ℕ, suc, ◌+◌, List, [], ◌∷◌, Bool, true, false, Option, Some, None, bytes_eq, decimal, refl, sym, ap, ap₂, subst, ◌∙◌}
 use Rattle.std.specs.Prelude.{if◌then◌else◌}
 use Rattle.claim_tree.specs.Tree.{Text, Tree, leaf, array, object, Elements, no_elements, element, Members, no_members, member, member_named, get}
-use Rattle.claim_tree.proofs.Lists.{bytes_same}
+use Rattle.sd_outside.proofs.Lists.{bytes_same}
 use Rattle.marked_tree.specs.Marked.{Marked, MarkedMembers, strip, strip_elements, strip_members, remark, remark_elements, remark_members, keep_member, new_mark, kept, prune}
 use Rattle.marked_tree.specs.Paths.{Path, below, hidden_in, one_if, mark_if, mark_from, mark_elements, mark_members, mark, is_among}
 

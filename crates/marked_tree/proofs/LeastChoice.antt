@@ -4,8 +4,8 @@ use Rattle.std.specs.List.{list_any}
 use Rattle.std.proofs.lemmas.Bool.Decides.{nat_tests}
 use Rattle.std.proofs.lemmas.Bool.{and_parts, and_from}
 use Rattle.claim_tree.specs.Tree.{Tree}
-use Rattle.claim_tree.specs.Lists.{In}
-use Rattle.claim_tree.proofs.Lists.{list_any-In, list_any-from}
+use Rattle.sd_outside.specs.Lists.{In}
+use Rattle.sd_outside.proofs.Lists.{list_any-In, list_any-from}
 use Rattle.claim_tree.specs.Path.{is_front}
 use Rattle.marked_tree.specs.Choice.{is_on_way, IsUnmixed, IsLeastChoice}
 use Rattle.marked_tree.specs.Closed.{IsClosed, KeepsTheWay}

@@ -1,9 +1,9 @@
 -- What a choice of marks leaves is the tree without the hidden places that lead to no wanted one.
 use Rattle.std.proofs.Common.{◌≡◌, ℕ, suc, ◌+◌, List, [], ◌∷◌, ◌++◌, map, Bool, true, false, not, ◌&&◌, if◌then◌else◌, decimal, Some, inl, inr, ⊎_elim, refl, sym, ap, ap₂, subst, ◌∙◌, arith}
 use Rattle.claim_tree.specs.Tree.{Text, Tree, leaf, array, object, Elements, no_elements, element, Members, no_members, member}
-use Rattle.claim_tree.specs.Lists.{In}
+use Rattle.sd_outside.specs.Lists.{In}
 use Rattle.claim_tree.specs.Path.{is_front}
-use Rattle.claim_tree.proofs.Lists.{In-left, In-right, In-map, In-of_map, In-append, list_any-In, list_any-from}
+use Rattle.sd_outside.proofs.Lists.{In-left, In-right, In-map, In-of_map, In-append, list_any-In, list_any-from}
 use Rattle.claim_tree.proofs.SamePaths.{path_same}
 use Rattle.marked_tree.specs.LeftOut.{without, elements_without, members_without, leads_to}
 use Rattle.marked_tree.specs.Laws.{ChosenIsLeft}

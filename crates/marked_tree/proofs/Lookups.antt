@@ -6,7 +6,7 @@ use Rattle.std.specs.List.Sorted.{IsStableBy, ties}
 use Rattle.std.specs.Ordering.{is_lt, is_eq}
 use Rattle.std.proofs.lemmas.Map.Text.{is_eq-slice_cmp}
 use Rattle.claim_tree.specs.Tree.{Text, IsBefore, IsBeforeAll}
-use Rattle.claim_tree.proofs.Lists.{bytes_same, bytes_refl, pair_same}
+use Rattle.sd_outside.proofs.Lists.{bytes_same, bytes_refl, pair_same}
 use Rattle.marked_tree.specs.Marked as spec
 use Rattle.marked_tree.specs.Marked.{MarkedMembers, marked_member, no_marked_members, put}
 use Rattle.marked_tree.specs.MarkedCalls.{marked_names, put_all}

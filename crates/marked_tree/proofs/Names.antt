@@ -7,8 +7,8 @@ use Rattle.std.specs.Ordering.{match_ordering, is_lt, ordering_reverse, ordering
 use Rattle.std.proofs.lemmas.Cmp.{is_lt_index, tied_itself}
 use Rattle.std.proofs.lemmas.List.Sorted.{searchable_from_sorted}
 use Rattle.claim_tree.specs.Tree.{Text, member, names, inserted, IsBefore, IsBeforeAll, IsOrdered, MembersOrdered}
-use Rattle.claim_tree.specs.Lists.{StandsAt}
-use Rattle.claim_tree.proofs.Lists.{At-below, At-same}
+use Rattle.sd_outside.specs.Lists.{StandsAt}
+use Rattle.sd_outside.proofs.Lists.{At-below, At-same}
 use Rattle.claim_tree.proofs.MapPlaces.{cmp, order, same_name, before_after, before_through, is_less, ordered-inserted}
 use Rattle.marked_tree.specs.Marked as spec
 use Rattle.marked_tree.specs.Marked.{MarkedMembers, marked_member, no_marked_members, put, strip, strip_members}

@@ -5,8 +5,8 @@ use Rattle.std.specs.BTreeSet.{insert_key}
 use Rattle.std.proofs.lemmas.Cmp.{ranked}
 use Rattle.std.specs.List.{AllByRecursion, IsDistinct}
 use Rattle.std.proofs.lemmas.Bool.Decides.{nat_tests}
-use Rattle.claim_tree.specs.Lists.{In}
-use Rattle.claim_tree.proofs.Lists.{list_any-In, list_any-from}
+use Rattle.sd_outside.specs.Lists.{In}
+use Rattle.sd_outside.proofs.Lists.{list_any-In, list_any-from}
 use Rattle.marked_tree.specs.Numbers.{has, AllAbove, IsRising}
 
 swapped : (a b c : Bool) → (a || (b || c)) ≡ (b || (a || c))

@@ -10,7 +10,7 @@ use Rattle.std.proofs.lemmas.List.{length-drop}
 use Rattle.std.proofs.Math.Seq.{take-length}
 use Rattle.std.proofs.lemmas.List.Sorted.{sorted_far, ranks_by}
 use Rattle.claim_tree.specs.Tree.{Text}
-use Rattle.claim_tree.proofs.Lists.{bytes_refl}
+use Rattle.sd_outside.proofs.Lists.{bytes_refl}
 use Rattle.marked_tree.specs.Paths.{Path, same_path, is_among}
 use Rattle.marked_tree.specs.Rests.{rests, step_cmp, step_order, path_order, AfterNone, AreSorted, Every, Compares, IsRunOfPaths, one_head, headed}
 use Rattle.claim_tree.proofs.MapPlaces.{less_clash}

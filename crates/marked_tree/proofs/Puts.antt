@@ -5,11 +5,11 @@ use Rattle.std.specs.Cmp.Lexicographic.{slice_cmp}
 use Rattle.std.proofs.lemmas.Cmp.{nat_list_cmp_total}
 use Rattle.std.proofs.lemmas.Map.Lookups.{exact_bytes}
 use Rattle.claim_tree.specs.Tree.{Text, IsBefore, IsBeforeAll}
-use Rattle.claim_tree.specs.Lists.{In}
+use Rattle.sd_outside.specs.Lists.{In}
 use Rattle.marked_tree.specs.Marked.{Marked, MarkedMembers, no_marked_members, marked_member, put, remark, remark_members, new_mark, keep_member}
 use Rattle.marked_tree.specs.Ways.{weight, members_weight, mark_weight, ways, members_ways, way_of}
 use Rattle.marked_tree.specs.MarkedCalls.{marked_names}
-use Rattle.claim_tree.proofs.Lists.{In-left, In-right, In-append}
+use Rattle.sd_outside.proofs.Lists.{In-left, In-right, In-append}
 use Rattle.claim_tree.proofs.MapPlaces.{before_after, before_through}
 use Rattle.marked_tree.proofs.Names.{Ascend}
 

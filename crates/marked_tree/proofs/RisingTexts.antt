@@ -6,7 +6,7 @@ use Rattle.std.specs.List.Sorted.{IsSortedBy, ties}
 use Rattle.std.specs.Ordering.{is_lt}
 use Rattle.std.proofs.lemmas.List.Sorted.{sorted_far, ranks_by}
 use Rattle.claim_tree.specs.Tree.{Text}
-use Rattle.claim_tree.proofs.Lists.{bytes_refl}
+use Rattle.sd_outside.proofs.Lists.{bytes_refl}
 use Rattle.claim_tree.proofs.MapPlaces.{cmp, order, same_name, before_after, less_clash}
 use Rattle.marked_tree.specs.Rests.{AfterNone, InOrder}
 use Rattle.marked_tree.proofs.Names.{tie_turned}

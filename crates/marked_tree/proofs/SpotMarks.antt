@@ -1,11 +1,11 @@
 -- Where each number below a count marks one node, it has a way.
 use Rattle.std.proofs.Common.{◌≡◌, ℕ, ◌<◌, ◌≤◌, List, [], ◌∷◌, Bool, true, false, eqb, inl, inr, refl, sym, subst, arith, eqb-true}
-use Rattle.claim_tree.specs.Lists.{In}
+use Rattle.sd_outside.specs.Lists.{In}
 use Rattle.marked_tree.specs.Marked.{Marked}
 use Rattle.marked_tree.specs.Ways.{only, ways}
 use Rattle.marked_tree.specs.Paths.{Spot, spots}
 use Rattle.marked_tree.specs.Laws.{HasEachMarkOnce}
-use Rattle.claim_tree.proofs.Lists.{In-map}
+use Rattle.sd_outside.proofs.Lists.{In-map}
 use Rattle.marked_tree.proofs.Sums.{sum_of}
 use Rattle.marked_tree.proofs.MarkFacts.{within_is}
 use Rattle.marked_tree.proofs.Spots.{Way, way, ways_of_spots, spots_weigh}

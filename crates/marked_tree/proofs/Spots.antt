@@ -8,10 +8,10 @@ use Rattle.claim_tree.specs.Tree.{Text}
 use Rattle.claim_tree.specs.Path.{is_front}
 use Rattle.marked_tree.specs.Marked.{Marked, marked_leaf, marked_array, marked_object, MarkedElements, no_marked_elements, marked_element, MarkedMembers, no_marked_members, marked_member}
 use Rattle.marked_tree.specs.Ways.{ways, elements_ways, members_ways, way_of, mark_weight, weight, elements_weight, members_weight, only}
-use Rattle.claim_tree.specs.Lists.{In}
+use Rattle.sd_outside.specs.Lists.{In}
 use Rattle.marked_tree.specs.Closed.{IsClosed}
 use Rattle.marked_tree.specs.Paths.{Path, Spot, inside, own_spot, spots, elements_spots, members_spots, first_with}
-use Rattle.claim_tree.proofs.Lists.{bytes_refl, bytes_same, In-left, In-right, In-append, In-map, In-of_map}
+use Rattle.sd_outside.proofs.Lists.{bytes_refl, bytes_same, In-left, In-right, In-append, In-map, In-of_map}
 use Rattle.marked_tree.proofs.Sums.{sum_of, sum_of-append, sum_of-map}
 
 -- ---- each way is that of a spot

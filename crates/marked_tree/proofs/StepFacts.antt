@@ -7,9 +7,9 @@ use Rattle.std.proofs.lemmas.List.Folds.{list_any-append}
 use Rattle.std.proofs.lemmas.Slice.Eq.{bytes_eq-Decides}
 use Rattle.std.proofs.lemmas.Bool.{cases_lt}
 use Rattle.claim_tree.specs.Tree.{Text, Tree, IsBeforeAll, IsOrdered, member_named}
-use Rattle.claim_tree.specs.Lists.{StandsAt}
+use Rattle.sd_outside.specs.Lists.{StandsAt}
 use Rattle.claim_tree.specs.Path.{is_front, stepped, element_on}
-use Rattle.claim_tree.proofs.Lists.{bytes_same, bytes_refl}
+use Rattle.sd_outside.proofs.Lists.{bytes_same, bytes_refl}
 use Rattle.claim_tree.proofs.Positions.{unequal}
 use Rattle.marked_tree.specs.Marked as spec
 use Rattle.marked_tree.specs.Marked.{marked_leaf, marked_array, marked_object, MarkedElements, no_marked_elements, marked_element, MarkedMembers, no_marked_members, marked_member, strip, strip_elements, strip_members}

@@ -7,7 +7,7 @@ use Rattle.std.specs.Cmp.Lexicographic.{pointwise, nat_list_cmp_total}
 use Rattle.std.proofs.lemmas.Cmp.{tied_itself, then_total, nat_cmp_total, on_total}
 use Rattle.std.proofs.lemmas.Bool.{and_parts}
 use Rattle.claim_tree.specs.Tree.{Text}
-use Rattle.claim_tree.proofs.Lists.{bytes_same, bytes_refl}
+use Rattle.sd_outside.proofs.Lists.{bytes_same, bytes_refl}
 use Rattle.claim_tree.proofs.MapPlaces.{cmp, same_name}
 use Rattle.claim_tree.specs.Path.{is_front}
 use Rattle.marked_tree.specs.Rests.{step_cmp, path_order}

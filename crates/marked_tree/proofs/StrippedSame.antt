@@ -2,7 +2,7 @@
 use Rattle.std.proofs.Common.{◌≡◌, ℕ, zero, suc, ◌+◌, ◌<◌, ◌≤◌, List, [], ◌∷◌, length, get_or, Some, add-one, refl, sym, ap, ap₂, subst, ◌∙◌, arith}
 use Rattle.claim_tree.specs.Tree.{Text, Tree, array, object, Elements, no_elements, element, Members, no_members, member, elements_len, members_len, element_at}
 use Rattle.claim_tree.specs.TreeCalls.{member_at}
-use Rattle.claim_tree.proofs.Lists.{pair_same}
+use Rattle.sd_outside.proofs.Lists.{pair_same}
 use Rattle.marked_tree.specs.Marked.{MarkedElements, no_marked_elements, marked_element, MarkedMembers, no_marked_members, marked_member, strip, strip_elements, strip_members}
 use Rattle.marked_tree.specs.MarkedCalls.{marked_elements_len, marked_members_len}
 use Rattle.marked_tree.specs.View.{marked_of, marked_elements_of, marked_members_of}

@@ -1,6 +1,6 @@
 -- Sets of marks that have all marks above each of theirs, or on the way to a path.
 use Rattle.std.specs.Prelude.{◌≡◌, ℕ, List, Bool, true}
-use Rattle.claim_tree.specs.Lists.{In}
+use Rattle.sd_outside.specs.Lists.{In}
 use Rattle.claim_tree.specs.Path.{is_front}
 use Rattle.marked_tree.specs.Marked.{Marked}
 use Rattle.marked_tree.specs.Paths.{Path, Spot, spots}

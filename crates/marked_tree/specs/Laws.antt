@@ -1,7 +1,7 @@
 -- Not needed to believe the program's promises: what the laws of marking and choosing say.
 use Rattle.std.specs.Prelude.{◌≡◌, ℕ, List, length, ltb, Some, if◌then◌else◌}
 use Rattle.claim_tree.specs.Tree.{Tree}
-use Rattle.claim_tree.specs.Lists.{StandsAt}
+use Rattle.sd_outside.specs.Lists.{StandsAt}
 use Rattle.marked_tree.specs.LeftOut.{shown}
 use Rattle.marked_tree.specs.Marked.{Marked, strip, prune}
 use Rattle.marked_tree.specs.Ways.{weight, only, closing}

@@ -1,7 +1,7 @@
 -- For private functions: where a name stands among ascending names.
 use Rattle.std.specs.Prelude.{ℕ, ◌<◌, ◌≤◌, List, length}
 use Rattle.claim_tree.specs.Tree.{Text, IsBefore}
-use Rattle.claim_tree.specs.Lists.{StandsAt}
+use Rattle.sd_outside.specs.Lists.{StandsAt}
 
 -- the names before i come before the name, and the others after it
 pub record IsNameGap (names : List Text) (name : Text) (i : ℕ) : Type 0 where

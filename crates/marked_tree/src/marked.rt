@@ -3,7 +3,7 @@ ghost use Rattle.std.specs.Prelude.{◌≡◌, ◌++◌, ◌<◌, ◌≤◌, len
 ghost use Rattle.std.specs.Ordering.{nat_cmp};
 ghost use Rattle.std.specs.Cmp.Lexicographic.{slice_cmp};
 ghost use Rattle.claim_tree.specs.Tree.{IsBefore, IsOrdered, ElementsOrdered, MembersOrdered};
-ghost use Rattle.claim_tree.specs.Lists.{StandsAt};
+ghost use Rattle.sd_outside.specs.Lists.{StandsAt};
 ghost use Rattle.marked_tree.specs.Marked.{strip, strip_elements, strip_members, no_marked_elements, no_marked_members, put};
 ghost use Rattle.marked_tree.specs.MarkedCalls.{marked_elements_len, marked_members_len, marked_element_at, marked_member_at, marked_names, marked_pushed, marked_inserted, put_all};
 ghost use Rattle.marked_tree.specs.NamePositions.{IsNameGap};

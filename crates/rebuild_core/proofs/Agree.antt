@@ -2,12 +2,12 @@
 use Rattle.std.proofs.Common.{◌≡◌, ℕ, suc, List, [], ◌∷◌, ◌++◌, map, Bool, true, false, cond, inl, inr, Option, Some, None, refl, ap, ap₂, ◌∙◌}
 use Rattle.std.specs.Prelude.{bytes_eq}
 use Rattle.claim_tree.specs.Tree.{Text, Tree, leaf, array, object, Elements, no_elements, element, Members, no_members, member, names}
-use Rattle.claim_tree.specs.Lists.{In}
+use Rattle.sd_outside.specs.Lists.{In}
 use Rattle.digest_sites.specs.Reserved.{sd_name, sd_texts, element_digest}
 use Rattle.digest_sites.specs.Sites.{Step, to_member, to_element, Site, sites, element_sites, member_sites, sites_on, own_site, element_site, under}
 use Rattle.marked_tree.specs.Marked.{Marked, marked_array, marked_object, MarkedElements, marked_element, MarkedMembers, marked_member}
 use Rattle.rebuild_core.specs.Opening.{Shown, open_tree, open_elements, open_members, open_element, show_members, show_element, show_member}
-use Rattle.claim_tree.proofs.Lists.{In-left, In-right, In-map}
+use Rattle.sd_outside.proofs.Lists.{In-left, In-right, In-map}
 
 -- P holds of the digest of each site
 abbrev pub Each : (Text → Type 0) → List Site → Type 0

@@ -3,9 +3,9 @@
 use Rattle.std.proofs.Common.{◌≡◌, Bool, true, false, ◌||◌, Some, bytes_eq, refl, sym, ap, ◌∙◌, subst, inl, inr}
 use Rattle.std.specs.Prelude.{[], if◌then◌else◌, unwrap_or}
 use Rattle.claim_tree.specs.Tree.{Text, Tree, leaf, text, array, object, Members, no_members, member, member_named, names, IsBeforeAll, IsOrdered, MembersOrdered}
-use Rattle.claim_tree.specs.Lists.{In}
+use Rattle.sd_outside.specs.Lists.{In}
 use Rattle.claim_tree.specs.Removed.{removed}
-use Rattle.claim_tree.proofs.Lists.{bytes_same}
+use Rattle.sd_outside.proofs.Lists.{bytes_same}
 use Rattle.claim_tree.proofs.OtherMembers.{named_gone, removed_absent}
 use Rattle.digest_sites.specs.Reserved.{sd_name, dots_name, sd_texts, text_list, misuses, members_misuse, is_ill_named}
 use Rattle.rebuild_core.specs.Payload.{alg_name, without_alg}

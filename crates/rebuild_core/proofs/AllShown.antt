@@ -2,7 +2,7 @@
 use Rattle.std.proofs.Common.{◌≡◌, ℕ, zero, suc, ◌+◌, ◌<◌, ◌≤◌, List, [], ◌∷◌, ◌++◌, map, length, Bool, true, false, cond, not, is_some, ◌||◌, ◌&&◌, option_map, inl, inr, ⊎_elim, Option, Some, None, refl, sym, ap, ap₂, ◌∙◌, subst, arith}
 use Rattle.std.specs.Prelude.{bytes_eq, option_and_then}
 use Rattle.std.proofs.lemmas.Bool.{and_from, or_right}
-use Rattle.claim_tree.specs.Lists.{StandsAt, In, AtNone, Repeats}
+use Rattle.sd_outside.specs.Lists.{StandsAt, In, AtNone, Repeats}
 use Rattle.claim_tree.specs.Tree.{Elements, IsOrdered, Members, Text, Tree, text_of, array, element, leaf, member, no_elements, no_members, object}
 use Rattle.digest_sites.specs.Given.{Given}
 use Rattle.digest_sites.specs.Reserved.{dots_name, element_digest, elements_misuse, members_misuse, misuses, sd_name, sd_texts, text_list, texts_of}
@@ -19,7 +19,7 @@ use Rattle.rebuild_core.specs.Reached.{OwnedSite, Owner, find, is_in_round, is_r
 use Rattle.rebuild_core.specs.Opening.{Shown, nothing_shown, open_element, open_elements, open_members, open_tree, opened, processed, reveal, show_element, shown, shown_by}
 use Rattle.rebuild_core.specs.Payload.{alg_name}
 use Rattle.claim_tree.proofs.Everywheres.{EachElementIn, EachMemberIn}
-use Rattle.claim_tree.proofs.Lists.{At-In, At-below, At-left, At-map, At-right, At-same, In-At, In-append, In-left, In-map, In-of_map, In-right, bytes_refl, bytes_same, list_any-from, one_place, same_by_image}
+use Rattle.sd_outside.proofs.Lists.{At-In, At-below, At-left, At-map, At-right, At-same, In-At, In-append, In-left, In-map, In-of_map, In-right, bytes_refl, bytes_same, list_any-from, one_place, same_by_image}
 use Rattle.rebuild_core.proofs.Chains.{item_of_value}
 use Rattle.rebuild_core.proofs.Fits.{Names, Suits}
 use Rattle.rebuild_core.proofs.Fixed.{find_at}

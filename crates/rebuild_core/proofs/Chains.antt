@@ -4,14 +4,14 @@ use Rattle.std.specs.List.{list_any, IsDistinct, AllByRecursion}
 use Rattle.std.proofs.lemmas.Map.Steps.{length-le_from_distinct_below}
 use Rattle.std.proofs.lemmas.Bool.{or_cases, and_parts, true_from_ne_false}
 use Rattle.claim_tree.specs.Tree.{Tree}
-use Rattle.claim_tree.specs.Lists.{StandsAt, In, AtNone}
+use Rattle.sd_outside.specs.Lists.{StandsAt, In, AtNone}
 use Rattle.digest_sites.specs.Sites.{Site, sites}
 use Rattle.digest_sites.specs.Given.{Given}
 use Rattle.rebuild_core.specs.Reached.{stands, is_in_round, is_reached, Owner, payload, value_of, OwnedSite, owned_site, value_sites, met}
 use Rattle.rebuild_core.specs.Conditions.{RepeatedDigest}
 use Rattle.rebuild_core.specs.Soundness.{IsReferencedOnce}
 use Rattle.rebuild_core.specs.Laws.{StandsIn, LeadsUp}
-use Rattle.claim_tree.proofs.Lists.{In-left, In-right, In-map, In-At, At-same, At-below, same_by_image, list_any-In}
+use Rattle.sd_outside.proofs.Lists.{In-left, In-right, In-map, In-At, At-same, At-below, same_by_image, list_any-In}
 use Rattle.rebuild_core.proofs.Found.{stands-In}
 
 -- a site of a value that passes is an item

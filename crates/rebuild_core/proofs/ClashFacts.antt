@@ -3,9 +3,9 @@ use Rattle.std.proofs.Common.{◌≡◌, ℕ, ◌+◌, ◌<◌, ◌≤◌, List,
 use Rattle.std.specs.Prelude.{bytes_eq}
 use Rattle.std.proofs.lemmas.Bool.{and_parts, and_from}
 use Rattle.claim_tree.specs.Tree.{Text}
-use Rattle.claim_tree.specs.Lists.{StandsAt, In, AtNone, IsLeast}
+use Rattle.sd_outside.specs.Lists.{StandsAt, In, AtNone, IsLeast}
 use Rattle.claim_tree.proofs.Counting.{before_or_at}
-use Rattle.claim_tree.proofs.Lists.{At-same, At-below, bytes_same, bytes_refl}
+use Rattle.sd_outside.proofs.Lists.{At-same, At-below, bytes_same, bytes_refl}
 use Rattle.digest_sites.specs.Given.{Given}
 use Rattle.rebuild_core.specs.Rows.{SeenRow}
 use Rattle.rebuild_core.specs.RowNames.{given_name, NamesAt, Clashes}

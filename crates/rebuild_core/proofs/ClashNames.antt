@@ -1,9 +1,9 @@
 -- Names that are there already.
 use Rattle.std.proofs.Common.{◌≡◌, ◌∷◌, Bool, true, false, not, bytes_eq, if◌then◌else◌, IsTrue, Option, Some, None, is_some, option_map, inl, inr, refl, sym, ap, ◌∙◌}
 use Rattle.claim_tree.specs.Tree.{Text, Tree, Members, no_members, member, names, member_named}
-use Rattle.claim_tree.specs.Lists.{In}
+use Rattle.sd_outside.specs.Lists.{In}
 use Rattle.claim_tree.specs.Removed.{removed}
-use Rattle.claim_tree.proofs.Lists.{bytes_same, bytes_refl}
+use Rattle.sd_outside.proofs.Lists.{bytes_same, bytes_refl}
 use Rattle.rebuild_core.specs.Payload.{alg_name}
 use Rattle.rebuild_core.specs.Rows.{beside_names}
 

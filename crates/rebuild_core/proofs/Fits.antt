@@ -2,7 +2,7 @@
 use Rattle.std.proofs.Common.{◌≡◌, ℕ, suc, List, [], ◌∷◌, ◌++◌, map, Bool, true, false, cond, ◌⊎◌, inl, inr, ⊎_elim, Option, Some, None, option_map, refl, sym, ap, ap₂, ◌∙◌, subst}
 use Rattle.std.specs.Prelude.{bytes_eq}
 use Rattle.claim_tree.specs.Tree.{Text, Tree, leaf, array, object, Elements, no_elements, element, Members, no_members, member, names, IsBeforeAll, IsOrdered, MembersOrdered, ElementsOrdered}
-use Rattle.claim_tree.specs.Lists.{In}
+use Rattle.sd_outside.specs.Lists.{In}
 use Rattle.digest_sites.specs.Reserved.{sd_name, sd_texts, element_digest}
 use Rattle.digest_sites.specs.Sites.{Step, to_member, to_element, Site, sites, element_sites, member_sites, sites_on, own_site, element_site, under}
 use Rattle.digest_sites.specs.declared.site.SiteKind.{SiteKind}
@@ -12,7 +12,7 @@ use Rattle.marked_tree.specs.MarkedCalls.{marked_names}
 use Rattle.rebuild_core.specs.Opening.{Shown, nothing_shown, shown, open_tree, open_elements, open_members, open_element, show_members, show_element, show_member}
 use Rattle.rebuild_core.specs.Conditions.{IsWrong}
 use Rattle.rebuild_core.specs.Whole.{IsNew, AllNew}
-use Rattle.claim_tree.proofs.Lists.{In-left, In-right, In-append, In-map, In-of_map}
+use Rattle.sd_outside.proofs.Lists.{In-left, In-right, In-append, In-map, In-of_map}
 use Rattle.rebuild_core.proofs.Agree.{Each, Each-left, Each-right, Each-under, Each-own, Each-rest}
 use Rattle.marked_tree.proofs.Names.{Ascend}
 use Rattle.marked_tree.proofs.Puts.{put_names, put_ascending, put_kept, remark_put}

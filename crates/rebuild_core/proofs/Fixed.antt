@@ -2,14 +2,14 @@
 use Rattle.std.proofs.Common.{◌≡◌, ℕ, zero, suc, ◌+◌, ◌≤◌, List, [], ◌∷◌, map, length, Bool, true, false, cond, ◌⊎◌, inl, inr, Option, Some, None, refl, sym, ap, ap₂, ◌∙◌, subst, arith}
 use Rattle.std.specs.Prelude.{bytes_eq}
 use Rattle.claim_tree.specs.Tree.{Text, Tree}
-use Rattle.claim_tree.specs.Lists.{StandsAt, In, Repeats, AtNone}
+use Rattle.sd_outside.specs.Lists.{StandsAt, In, Repeats, AtNone}
 use Rattle.digest_sites.specs.Sites.{sites}
 use Rattle.digest_sites.specs.Given.{Given}
 use Rattle.rebuild_core.specs.Reached.{find_from, find, is_reached, payload, value_of, owned_site, value_sites, met, owned_digests, given_digests}
 use Rattle.rebuild_core.specs.Opening.{Shown, nothing_shown, shown, reveal, opened}
 use Rattle.rebuild_core.specs.Soundness.{IsReferencedOnce}
 use Rattle.rebuild_core.specs.Laws.{LeadsUp}
-use Rattle.claim_tree.proofs.Lists.{bytes_same, bytes_refl, In-At, At-In, At-map, At-below, In-map, In-of_map}
+use Rattle.sd_outside.proofs.Lists.{bytes_same, bytes_refl, In-At, At-In, At-map, At-below, In-map, In-of_map}
 use Rattle.rebuild_core.proofs.Found.{found}
 use Rattle.rebuild_core.proofs.Chains.{reached_all, leads_up, short_chain}
 use Rattle.rebuild_core.proofs.Settled.{settled_value, before}

@@ -4,7 +4,7 @@ use Rattle.std.proofs.Common.{◌≡◌, ℕ, zero, suc, List, [], ◌∷◌, ma
 use Rattle.std.specs.List.{IsDistinct, AllByRecursion}
 use Rattle.std.proofs.lemmas.Bool.{or_cases, and_parts}
 use Rattle.claim_tree.specs.Tree.{Tree}
-use Rattle.claim_tree.specs.Lists.{StandsAt, In}
+use Rattle.sd_outside.specs.Lists.{StandsAt, In}
 use Rattle.digest_sites.specs.Sites.{Site, sites}
 use Rattle.digest_sites.specs.Given.{Given}
 use Rattle.marked_tree.specs.Closed.{IsClosed}
@@ -17,7 +17,7 @@ use Rattle.rebuild_core.specs.Opening.{reveal, opened, processed}
 use Rattle.rebuild_core.specs.Reached.{stands, is_in_round, payload, value_of, OwnedSite, owned_site, value_sites, all_sites, all_digests, given_digests}
 use Rattle.rebuild_core.specs.Readable.{IsReadable}
 use Rattle.rebuild_core.specs.Soundness.{IsSound}
-use Rattle.claim_tree.proofs.Lists.{In-left, In-right, In-map, In-At, At-In, At-same, At-map, At-below, list_any-In}
+use Rattle.sd_outside.proofs.Lists.{In-left, In-right, In-map, In-At, At-In, At-same, At-map, At-below, list_any-In}
 use Rattle.marked_tree.proofs.NumberSets.{has-In, In-has}
 use Rattle.marked_tree.proofs.Remarks.{strip-renumbered}
 use Rattle.marked_tree.proofs.Spots.{closed_by_ways}

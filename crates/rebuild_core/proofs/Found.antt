@@ -2,11 +2,11 @@
 use Rattle.std.proofs.Common.{◌≡◌, ℕ, suc, ◌+◌, List, [], ◌∷◌, Bool, true, false, Some, sym, ap, ◌∙◌, refl, arith}
 use Rattle.std.specs.Prelude.{bytes_eq}
 use Rattle.claim_tree.specs.Tree.{Text}
-use Rattle.claim_tree.specs.Lists.{StandsAt, In}
+use Rattle.sd_outside.specs.Lists.{StandsAt, In}
 use Rattle.digest_sites.specs.Sites.{Site}
 use Rattle.digest_sites.specs.Given.{Given}
 use Rattle.rebuild_core.specs.Reached.{find_from, stands}
-use Rattle.claim_tree.proofs.Lists.{bytes_same, list_any-In, pair_same}
+use Rattle.sd_outside.proofs.Lists.{bytes_same, list_any-In, pair_same}
 
 pub stands-In : (d : Text) (ss : List Site) → stands d ss ≡ true → (s : Site) × In s ss × (s.digest ≡ d)
 stands-In d ss h = let w = list_any-In (λ s. bytes_eq s.digest d) ss h in (w.0, w.1, bytes_same _ _ w.2)

@@ -1,7 +1,7 @@
 -- The first four conditions, by numbers.
 use Rattle.std.proofs.Common.{◌≡◌, ℕ, suc, ◌<◌, List, [], ◌∷◌, ◌++◌, map, length, get_or, Bool, true, false, inl, inr, refl, sym, ap, ◌∙◌, subst, arith}
 use Rattle.claim_tree.specs.Tree.{Text, Tree, IsOrdered}
-use Rattle.claim_tree.specs.Lists.{StandsAt, In, AtNone, IsLeast, Repeats}
+use Rattle.sd_outside.specs.Lists.{StandsAt, In, AtNone, IsLeast, Repeats}
 use Rattle.digest_sites.specs.Sites.{sites}
 use Rattle.digest_sites.specs.Given.{Given}
 use Rattle.rebuild_core.specs.Payload.{without_alg}
@@ -10,7 +10,7 @@ use Rattle.rebuild_core.specs.LookUps.{look_ups, counted, RoseWithin}
 use Rattle.rebuild_core.specs.Rows.{seen, all_rows, row_ends}
 use Rattle.rebuild_core.specs.Conditions.{RepeatedDisclosure, Misused, RepeatedDigest, Unreferenced}
 use Rattle.rebuild_core.specs.Soundness.{IsReferencedOnce}
-use Rattle.claim_tree.proofs.Lists.{At-same, At-map, In-At, one_place}
+use Rattle.sd_outside.proofs.Lists.{At-same, At-map, In-At, one_place}
 use Rattle.rebuild_core.specs.DigestNumbers.{numbers, all_interned, row_texts, AllAt, IsFlatList, IsNumbered}
 use Rattle.rebuild_core.specs.Answer.{IsPayload}
 use Rattle.rebuild_core.specs.declared.rows.Row.{Row}

@@ -1,8 +1,8 @@
 -- The least disclosure that is ill placed, found in one pass.
 use Rattle.std.proofs.Common.{◌≡◌, ℕ, zero, suc, ◌+◌, ◌<◌, ◌≤◌, List, [], ◌∷◌, map, length, get_or, ⊎_elim, refl, subst, arith}
-use Rattle.claim_tree.specs.Lists.{StandsAt, AtNone, IsLeast}
+use Rattle.sd_outside.specs.Lists.{StandsAt, AtNone, IsLeast}
 use Rattle.claim_tree.proofs.Counting.{before_or_at, not_below}
-use Rattle.claim_tree.proofs.Lists.{At-same, At-below, At-map}
+use Rattle.sd_outside.proofs.Lists.{At-same, At-below, At-map}
 use Rattle.digest_sites.specs.Given.{Given}
 use Rattle.rebuild_core.specs.Rows.{SeenRow, seen}
 use Rattle.rebuild_core.specs.RowNames.{StandsAtRow}

@@ -4,11 +4,11 @@ use Rattle.std.specs.Prelude.{slice_index, option_map}
 use Rattle.std.specs.Option.{is_some}
 use Rattle.std.proofs.lemmas.Grind.{get_or_default_zero}
 use Rattle.claim_tree.specs.Tree.{Text, Tree, Elements, no_elements, element, depth}
-use Rattle.claim_tree.specs.Lists.{StandsAt}
+use Rattle.sd_outside.specs.Lists.{StandsAt}
 use Rattle.claim_tree.specs.View.{tree_of}
 use Rattle.claim_tree.specs.ListViews.{elements_of}
 use Rattle.claim_tree.specs.declared.tree.Tree.{Tree as Code}
-use Rattle.claim_tree.proofs.Lists.{At-below}
+use Rattle.sd_outside.proofs.Lists.{At-below}
 use Rattle.digest_sites.specs.Reserved.{element_digest}
 use Rattle.digest_sites.specs.Given.{Given}
 use Rattle.marked_tree.specs.Marked.{Marked, MarkedElements, marked_element, strip}

@@ -2,14 +2,14 @@
 use Rattle.std.proofs.Common.{◌≡◌, ℕ, suc, ◌+◌, List, [], ◌∷◌, ◌++◌, map, Bool, true, false, cond, ◌⊎◌, inl, inr, ⊎_elim, Option, Some, None, refl, subst, arith}
 use Rattle.std.specs.Prelude.{bytes_eq}
 use Rattle.claim_tree.specs.Tree.{Text, Tree, leaf, array, object, Elements, no_elements, element, Members, no_members, member, names}
-use Rattle.claim_tree.specs.Lists.{In}
+use Rattle.sd_outside.specs.Lists.{In}
 use Rattle.digest_sites.specs.Reserved.{sd_name, sd_texts, element_digest}
 use Rattle.digest_sites.specs.Sites.{Step, to_member, to_element, Site, sites, element_sites, member_sites, sites_on, own_site, element_site, under}
 use Rattle.digest_sites.specs.declared.site.SiteKind.TheVariants.{Element}
 use Rattle.marked_tree.specs.Marked.{Marked, MarkedElements, MarkedMembers, marked_member}
 use Rattle.marked_tree.specs.Ways.{weight, elements_weight, members_weight, ways, elements_ways, members_ways, way_of}
 use Rattle.rebuild_core.specs.Opening.{Shown, nothing_shown, shown, open_tree, open_elements, open_members, open_element, show_members, show_element, show_member}
-use Rattle.claim_tree.proofs.Lists.{In-left, In-right, In-append, In-of_map}
+use Rattle.sd_outside.proofs.Lists.{In-left, In-right, In-append, In-of_map}
 use Rattle.marked_tree.proofs.Spots.{Way}
 use Rattle.marked_tree.proofs.Sums.{sum_of, sum_of-append, sum_of-map}
 use Rattle.marked_tree.proofs.Puts.{put_weight, put_way, put_way_other}

@@ -1,8 +1,8 @@
 -- The met list by numbers.
 use Rattle.std.proofs.Common.{◌≡◌, ℕ, zero, suc, ◌+◌, ◌<◌, ◌≤◌, List, [], ◌∷◌, ◌++◌, length, get_or, set, drop, Bool, true, false, cond, ⊎_elim, refl, sym, ap, ap₂, ◌∙◌, subst, arith, length-set, append_assoc}
-use Rattle.claim_tree.specs.Lists.{StandsAt, IsLeast, Repeats}
+use Rattle.sd_outside.specs.Lists.{StandsAt, IsLeast, Repeats}
 use Rattle.claim_tree.proofs.Counting.{before_or_at}
-use Rattle.claim_tree.proofs.Lists.{At-same, At-below}
+use Rattle.sd_outside.proofs.Lists.{At-same, At-below}
 use Rattle.rebuild_core.specs.Graph.{flagged_rows}
 use Rattle.rebuild_core.proofs.Worklist.{set_from, set_keeps, set_here, same_default, not_both, in_range}
 

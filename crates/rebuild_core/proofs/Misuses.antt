@@ -1,12 +1,12 @@
 -- Which trees misuse a reserved name.
 use Rattle.std.proofs.Common.{◌≡◌, ℕ, zero, suc, ◌+◌, ◌≤◌, List, map, length, true, false, ◌⊎◌, inl, inr, sym, ap, ◌∙◌, subst, arith}
 use Rattle.claim_tree.specs.Tree.{Tree}
-use Rattle.claim_tree.specs.Lists.{StandsAt, IsLeast}
+use Rattle.sd_outside.specs.Lists.{StandsAt, IsLeast}
 use Rattle.digest_sites.specs.Reserved.{misuses}
 use Rattle.digest_sites.specs.Given.{Given}
 use Rattle.digest_sites.specs.GivenView.{given_of}
 use Rattle.rebuild_core.specs.Conditions.{Misused}
-use Rattle.claim_tree.proofs.Lists.{At-same}
+use Rattle.sd_outside.proofs.Lists.{At-same}
 use Rattle.digest_sites.specs.declared.given.Given as code
 use Rattle.rebuild_core.proofs.GivenFacts.{item_past}
 

@@ -1,7 +1,7 @@
 -- Where conditions 18 to 20 hold, the sites of the payload and of each value fit what they show.
 use Rattle.std.proofs.Common.{◌≡◌, ℕ, zero, suc, ◌+◌, ◌<◌, List, [], ◌∷◌, map, Bool, true, cond, inl, inr, Option, Some, None, refl, sym, ap, ◌∙◌, subst, arith}
 use Rattle.claim_tree.specs.Tree.{Text, Tree}
-use Rattle.claim_tree.specs.Lists.{StandsAt, In}
+use Rattle.sd_outside.specs.Lists.{StandsAt, In}
 use Rattle.digest_sites.specs.Sites.{sites}
 use Rattle.digest_sites.specs.Given.{Given}
 use Rattle.digest_sites.specs.declared.site.SiteKind.{SiteKind}
@@ -10,7 +10,7 @@ use Rattle.rebuild_core.specs.Reached.{find, is_reached, payload, value_of, Owne
 use Rattle.rebuild_core.specs.Opening.{Shown, shown_by, reveal, open_tree}
 use Rattle.rebuild_core.specs.Conditions.{IsWrong, Discloses}
 use Rattle.rebuild_core.specs.Soundness.{IsReferencedOnce, IsWellNamed}
-use Rattle.claim_tree.proofs.Lists.{In-At, At-In}
+use Rattle.sd_outside.proofs.Lists.{In-At, At-In}
 use Rattle.rebuild_core.proofs.Found.{found}
 use Rattle.rebuild_core.proofs.Chains.{in_payload, in_value, reached_all}
 use Rattle.rebuild_core.proofs.Fits.{Pairwise, Pairwise-left, Pairwise-right, Pairwise-of_map, Suits, Names, NamesApart, AreFit}

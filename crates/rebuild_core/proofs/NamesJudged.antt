@@ -2,8 +2,8 @@
 use Rattle.std.proofs.Common.{◌≡◌, ℕ, zero, suc, List, [], ◌∷◌, length, Option, Some, inl, inr, ⊎_elim, refl, sym, ap, ap₂, ◌∙◌, subst, arith}
 use Rattle.std.specs.Prelude.{option_and_then, slice_get}
 use Rattle.claim_tree.specs.Tree.{Text, Tree}
-use Rattle.claim_tree.specs.Lists.{StandsAt, In, AtNone, IsLeast}
-use Rattle.claim_tree.proofs.Lists.{At-below, At-In, In-At, At-get}
+use Rattle.sd_outside.specs.Lists.{StandsAt, In, AtNone, IsLeast}
+use Rattle.sd_outside.proofs.Lists.{At-below, At-In, In-At, At-get}
 use Rattle.digest_sites.specs.Sites.{Step}
 use Rattle.digest_sites.specs.Given.{Given}
 use Rattle.digest_sites.specs.declared.site.SiteKind.{SiteKind}

@@ -3,8 +3,8 @@ use Rattle.std.proofs.Common.{◌≡◌, ℕ, ◌^◌, ◌<◌, ◌≤◌, List,
 use Rattle.std.specs.Prelude.{slice_index}
 use Rattle.std.proofs.lemmas.Grind.{get_or_default_zero}
 use Rattle.claim_tree.specs.Tree.{Text, Tree}
-use Rattle.claim_tree.specs.Lists.{StandsAt}
-use Rattle.claim_tree.proofs.Lists.{At-below, At-same, At-get}
+use Rattle.sd_outside.specs.Lists.{StandsAt}
+use Rattle.sd_outside.proofs.Lists.{At-below, At-same, At-get}
 use Rattle.digest_sites.specs.Given.{Given}
 use Rattle.digest_sites.specs.GivenView.{emptied}
 use Rattle.rebuild_core.specs.Opening.{nothing_shown, shown, open_tree}

@@ -7,7 +7,7 @@ use Rattle.claim_tree.specs.EveryMember.{elements_pass, members_pass}
 use Rattle.claim_tree.specs.View.{tree_of}
 use Rattle.claim_tree.specs.declared.tree.Tree as code
 use Rattle.claim_tree.specs.Removed.{removed}
-use Rattle.claim_tree.specs.Lists.{StandsAt, Repeats}
+use Rattle.sd_outside.specs.Lists.{StandsAt, Repeats}
 use Rattle.digest_sites.specs.Reserved.{sd_name, dots_name, sd_texts, element_digest, misuses, elements_misuse, members_misuse}
 use Rattle.digest_sites.specs.Sites.{sites, element_sites, member_sites}
 use Rattle.marked_tree.specs.Marked.{strip, strip_elements, strip_members}

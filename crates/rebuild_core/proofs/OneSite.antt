@@ -1,12 +1,12 @@
 -- Each disclosure has one site.
 use Rattle.std.proofs.Common.{refl, ◌≡◌, ℕ, List, [], ◌∷◌, ap, ◌∙◌, subst}
 use Rattle.claim_tree.specs.Tree.{Text, Tree}
-use Rattle.claim_tree.specs.Lists.{StandsAt, In}
+use Rattle.sd_outside.specs.Lists.{StandsAt, In}
 use Rattle.digest_sites.specs.Given.{Given}
 use Rattle.rebuild_core.specs.Reached.{payload, value_of, OwnedSite, owned_site, met, owned_digests}
 use Rattle.rebuild_core.specs.Soundness.{IsReferencedOnce}
 use Rattle.rebuild_core.specs.Laws.{StandsOnce, LeadsUp, OneSite}
-use Rattle.claim_tree.proofs.Lists.{In-At, At-map, At-same, one_place}
+use Rattle.sd_outside.proofs.Lists.{In-At, At-map, At-same, one_place}
 use Rattle.rebuild_core.proofs.Chains.{leads_up, short, distinct}
 use Rattle.rebuild_core.proofs.Settled.{settled_tree}
 

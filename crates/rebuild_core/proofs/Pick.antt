@@ -2,7 +2,7 @@
 use Rattle.std.proofs.Common.{◌≡◌, ℕ, zero, suc, ◌+◌, ◌<◌, List, [], ◌∷◌, map, Bool, true, false, cond, eqb, ◌⊎◌, inl, inr, ⊎_elim, Option, Some, None, refl, sym, ap, ◌∙◌, subst, arith, eqb-true, eq-eqb}
 use Rattle.std.specs.List.{IsDistinct, AllByRecursion}
 use Rattle.claim_tree.specs.Tree.{Text, Tree, IsOrdered}
-use Rattle.claim_tree.specs.Lists.{StandsAt, In, AtNone}
+use Rattle.sd_outside.specs.Lists.{StandsAt, In, AtNone}
 use Rattle.digest_sites.specs.Sites.{Site, sites}
 use Rattle.digest_sites.specs.Given.{Given}
 use Rattle.rebuild_core.specs.Reached.{find, is_reached, Owner, payload, value_of, OwnedSite, owned_site, value_sites, met, owned_digests, given_digests}
@@ -10,7 +10,7 @@ use Rattle.rebuild_core.specs.Opening.{shown, shown_by, reveal, open_tree}
 use Rattle.rebuild_core.specs.Conditions.{RepeatedDigest, RepeatedDisclosure, Misused, Discloses, IsWrong}
 use Rattle.rebuild_core.specs.Soundness.{IsReferencedOnce, IsWellNamed}
 use Rattle.rebuild_core.specs.Laws.{IsPick, position_from}
-use Rattle.claim_tree.proofs.Lists.{In-append, In-of_map, In-At, At-In, At-same, At-map, one_place, At-of_map}
+use Rattle.sd_outside.proofs.Lists.{In-append, In-of_map, In-At, At-In, At-same, At-map, one_place, At-of_map}
 use Rattle.rebuild_core.proofs.Found.{found}
 use Rattle.rebuild_core.proofs.Chains.{in_payload, in_value, same_item, reached_all, value_injective}
 use Rattle.rebuild_core.proofs.Fixed.{find_at}

@@ -2,7 +2,7 @@
 use Rattle.std.proofs.Common.{◌≡◌, ℕ, zero, suc, ◌<◌, ◌≤◌, List, [], ◌∷◌, true, false, ◌⊎◌, inl, inr, Option, Some, pos, codes, refl, sym, subst, ◌∙◌, ap, arith}
 use Rattle.std.specs.Prelude.{bytes_eq}
 use Rattle.claim_tree.specs.Tree.{Text, Tree, whole, text, leaf, array, object, no_elements, element, no_members, member, IsOrdered, depth}
-use Rattle.claim_tree.specs.Lists.{StandsAt, In, Repeats, AtNone}
+use Rattle.sd_outside.specs.Lists.{StandsAt, In, Repeats, AtNone}
 use Rattle.digest_sites.specs.Reserved.{sd_name, dots_name, misuses}
 use Rattle.digest_sites.specs.Given.{Given}
 use Rattle.digest_sites.specs.declared.site.SiteKind.TheVariants.{Member}
@@ -16,7 +16,7 @@ use Rattle.rebuild_core.specs.Conditions.{Misused, Unreferenced, IsWrong, WrongS
 use Rattle.rebuild_core.specs.Soundness.{IsReferencedOnce, IsSound}
 use Rattle.rebuild_core.specs.Laws.{HasOneSite}
 use Rattle.rebuild_core.specs.Readable.{IsReadable}
-use Rattle.claim_tree.proofs.Lists.{bytes_refl, In-At, At-In}
+use Rattle.sd_outside.proofs.Lists.{bytes_refl, In-At, At-In}
 use Rattle.rebuild_core.proofs.OneSite.{one_site_holds}
 use Rattle.rebuild_core.proofs.Presented.{one_node_holds}
 

@@ -1,7 +1,7 @@
 -- The law of the presentation, and that each mark stands on one node.
 use Rattle.std.proofs.Common.{◌≡◌, ℕ, suc, ◌+◌, ◌<◌, ◌≤◌, List, [], ◌∷◌, length, Bool, true, false, cond, ltb, ◌⊎◌, inl, inr, ⊎_elim, Option, Some, None, refl, sym, ap, ap₂, ◌∙◌, arith}
 use Rattle.claim_tree.specs.Tree.{Text, Tree, depth}
-use Rattle.claim_tree.specs.Lists.{StandsAt, In}
+use Rattle.sd_outside.specs.Lists.{StandsAt, In}
 use Rattle.digest_sites.specs.Sites.{sites}
 use Rattle.digest_sites.specs.Given.{Given}
 use Rattle.marked_tree.specs.Marked.{Marked, MarkedElements, MarkedMembers, marked_leaf, marked_array, marked_object, no_marked_elements, marked_element, no_marked_members, marked_member, strip, new_mark, keep_element, keep_member, remark, remark_elements, remark_members, kept}
@@ -12,7 +12,7 @@ use Rattle.rebuild_core.specs.Soundness.{IsReferencedOnce, IsWellNamed, IsSound}
 use Rattle.rebuild_core.specs.Laws.{IsPick, Enumerates, IsPresentation, Presentation, position_from, OneNode}
 use Rattle.rebuild_core.specs.Readable.{IsReadable}
 use Rattle.rebuild_core.specs.Whole.{shown_weight}
-use Rattle.claim_tree.proofs.Lists.{At-In}
+use Rattle.sd_outside.proofs.Lists.{At-In}
 use Rattle.rebuild_core.proofs.OneSite.{one_site_holds}
 use Rattle.marked_tree.proofs.MarkFacts.{one_if_same, none_if_less, none_if_more, same_or_more, up_to, within_is, outside_is}
 use Rattle.marked_tree.proofs.Sums.{sum_of}

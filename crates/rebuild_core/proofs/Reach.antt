@@ -4,7 +4,7 @@ use Rattle.std.specs.Prelude.{bytes_eq}
 use Rattle.std.proofs.Math.Nat.{le-suc_iff}
 use Rattle.std.proofs.lemmas.Bool.{or_left, or_right, and_from}
 use Rattle.claim_tree.specs.Tree.{Text, Tree}
-use Rattle.claim_tree.specs.Lists.{StandsAt, In, AtNone}
+use Rattle.sd_outside.specs.Lists.{StandsAt, In, AtNone}
 use Rattle.digest_sites.specs.Sites.{Site, sites}
 use Rattle.digest_sites.specs.Given.{Given}
 use Rattle.marked_tree.specs.Marked.{Marked}
@@ -16,7 +16,7 @@ use Rattle.rebuild_core.specs.Opening.{reveal, opened, processed}
 use Rattle.rebuild_core.specs.Conditions.{RepeatedDigest, Unreferenced}
 use Rattle.rebuild_core.specs.Soundness.{IsReferencedOnce, IsWellNamed}
 use Rattle.rebuild_core.specs.Laws.{StandsIn, LeadsUp, IsPick}
-use Rattle.claim_tree.proofs.Lists.{bytes_refl, In-left, In-right, In-map, In-At, At-In, At-same, list_any-from}
+use Rattle.sd_outside.proofs.Lists.{bytes_refl, In-left, In-right, In-map, In-At, At-In, At-same, list_any-from}
 use Rattle.rebuild_core.proofs.Chains.{short, leads_up, item_of_value}
 use Rattle.rebuild_core.proofs.Fixed.{fixed, processed_settles}
 use Rattle.rebuild_core.proofs.Named.{payload_fits, value_fits}

@@ -1,8 +1,8 @@
 -- Texts numbered in turn, and the first that repeats an earlier one.
 use Rattle.std.proofs.Common.{◌≡◌, ℕ, zero, suc, ◌<◌, ◌≤◌, List, [], ◌∷◌, ◌++◌, map, length, get_or, take, Bool, true, false, cond, bytes_eq, inl, inr, refl, sym, ap, ◌∙◌, subst, arith}
 use Rattle.claim_tree.specs.Tree.{Text}
-use Rattle.claim_tree.specs.Lists.{StandsAt, In, Repeats}
-use Rattle.claim_tree.proofs.Lists.{bytes_same, bytes_refl, At-In, At-below, At-same, At-map, take-At}
+use Rattle.sd_outside.specs.Lists.{StandsAt, In, Repeats}
+use Rattle.sd_outside.proofs.Lists.{bytes_same, bytes_refl, At-In, At-below, At-same, At-map, take-At}
 use Rattle.digest_index.specs.Index.{position_or_end, interned}
 use Rattle.digest_index.proofs.Positions.{position_or_end-within}
 use Rattle.digest_index.proofs.Interned.{interned-new}

@@ -2,7 +2,7 @@
 use Rattle.std.proofs.Common.{◌≡◌, ℕ, suc, ◌≤◌, List, [], ◌∷◌, ◌++◌, map, Bool, true, false, cond, ◌⊎◌, inl, inr, ⊎_elim, Option, Some, None, refl, sym, ap, ◌∙◌, subst, arith, append_assoc}
 use Rattle.std.proofs.lemmas.List.{map-append}
 use Rattle.std.specs.Prelude.{bytes_eq}
-use Rattle.claim_tree.specs.Lists.{In}
+use Rattle.sd_outside.specs.Lists.{In}
 use Rattle.claim_tree.specs.Tree.{Elements, ElementsOrdered, IsOrdered, Members, MembersOrdered, Text, Tree, array, element, leaf, member, names, no_elements, no_members, object}
 use Rattle.digest_sites.specs.Reserved.{element_digest, sd_name, sd_texts}
 use Rattle.digest_sites.specs.Sites.{Step, to_member, to_element, Site, element_site, element_sites, member_sites, own_site, sites, sites_on, under}
@@ -12,7 +12,7 @@ use Rattle.marked_tree.specs.MarkedCalls.{marked_names}
 use Rattle.rebuild_core.specs.Free.{HasNoReserved, IsFree}
 use Rattle.rebuild_core.proofs.FreeMembers.{ElementsNoReserved, MembersNoReserved}
 use Rattle.rebuild_core.specs.Opening.{Shown, nothing_shown, open_element, open_elements, open_members, open_tree, show_element, show_member, show_members, shown}
-use Rattle.claim_tree.proofs.Lists.{In-append, In-of_map, In-right, bytes_same}
+use Rattle.sd_outside.proofs.Lists.{In-append, In-of_map, In-right, bytes_same}
 use Rattle.marked_tree.proofs.Names.{Ascend}
 use Rattle.marked_tree.proofs.Puts.{IsBeforeAll-not_in}
 use Rattle.rebuild_core.proofs.Fits.{Names, NamesApart, Suits, open_ascending, show_ascending}

@@ -1,13 +1,13 @@
 -- What a digest shows is a disclosure and its value.
 use Rattle.std.proofs.Common.{◌≡◌, ℕ, zero, suc, List, [], ◌∷◌, length, ◌⊎◌, inl, inr, Option, Some, None, sym, ap, ◌∙◌, refl, subst}
 use Rattle.claim_tree.specs.Tree.{Text, Tree}
-use Rattle.claim_tree.specs.Lists.{StandsAt, In}
+use Rattle.sd_outside.specs.Lists.{StandsAt, In}
 use Rattle.digest_sites.specs.Given.{Given}
 use Rattle.marked_tree.specs.Ways.{ways, way_of}
 use Rattle.rebuild_core.specs.Opening.{Shown, shown, shown_by, reveal, open_tree, opened}
 use Rattle.rebuild_core.specs.Reached.{find}
 use Rattle.rebuild_core.specs.Soundness.{IsReferencedOnce}
-use Rattle.claim_tree.proofs.Lists.{In-of_map}
+use Rattle.sd_outside.proofs.Lists.{In-of_map}
 use Rattle.rebuild_core.proofs.Fixed.{fixed}
 use Rattle.rebuild_core.proofs.Found.{found}
 use Rattle.marked_tree.proofs.Spots.{Way}

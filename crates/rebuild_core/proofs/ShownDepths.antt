@@ -4,7 +4,7 @@ use Rattle.std.specs.Ordering.{match_ordering}
 use Rattle.std.specs.Cmp.Lexicographic.{slice_cmp}
 use Rattle.std.proofs.lemmas.Map.Lookups.{exact_bytes}
 use Rattle.claim_tree.specs.Tree.{Text, depth, elements_depth, members_depth}
-use Rattle.claim_tree.specs.Lists.{In}
+use Rattle.sd_outside.specs.Lists.{In}
 use Rattle.marked_tree.specs.Marked.{Marked, MarkedElements, no_marked_elements, marked_element, MarkedMembers, no_marked_members, marked_member, put, strip, strip_elements, strip_members}
 use Rattle.marked_tree.specs.MarkedCalls.{marked_pushed, joined, marked_names, members_joined, put_all}
 use Rattle.marked_tree.specs.View.{marked_of, marked_members_of}

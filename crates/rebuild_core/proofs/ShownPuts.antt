@@ -3,7 +3,7 @@ use Rattle.std.proofs.Common.{◌≡◌, ℕ, List, [], ◌∷◌, ◌⊎◌, in
 use Rattle.std.specs.Ordering.{match_ordering, nat_cmp}
 use Rattle.std.specs.Cmp.Lexicographic.{slice_cmp}
 use Rattle.std.proofs.lemmas.Map.Lookups.{exact_bytes}
-use Rattle.claim_tree.specs.Lists.{In}
+use Rattle.sd_outside.specs.Lists.{In}
 use Rattle.claim_tree.specs.Everywhere.{InMembers}
 use Rattle.claim_tree.specs.Tree.{Elements, IsBefore, Leaf, Text, Tree}
 use Rattle.marked_tree.specs.Marked.{Marked, MarkedMembers, marked_member, no_marked_members, put, strip, strip_members}
@@ -12,7 +12,7 @@ use Rattle.marked_tree.specs.MarkedCalls.{marked_names}
 use Rattle.rebuild_core.specs.Free.{HasNoReserved, IsFree}
 use Rattle.rebuild_core.specs.Opening.{Shown, nothing_shown, show_member, show_members, shown}
 use Rattle.rebuild_core.proofs.FreeMembers.{MembersNoReserved}
-use Rattle.claim_tree.proofs.Lists.{In-append, In-left, In-right}
+use Rattle.sd_outside.proofs.Lists.{In-append, In-left, In-right}
 use Rattle.claim_tree.proofs.MapPlaces.{before_after, before_through}
 use Rattle.marked_tree.proofs.Names.{Ascend}
 use Rattle.marked_tree.proofs.Puts.{IsBeforeAll-not_in, never_itself}

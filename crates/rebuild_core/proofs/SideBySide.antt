@@ -1,6 +1,6 @@
 -- Two lists side by side: what stands at one place of both.
 use Rattle.std.proofs.Common.{◌≡◌, ℕ, zero, suc, List, [], ◌∷◌, ◌++◌, map, length, ◌⊎◌, inl, inr, ⊎_elim, refl, arith}
-use Rattle.claim_tree.specs.Lists.{StandsAt, In}
+use Rattle.sd_outside.specs.Lists.{StandsAt, In}
 
 -- at one place stand x and y
 abbrev pub Both : {X Y : Type 0} → List X → List Y → X → Y → Type 0

@@ -11,7 +11,7 @@ use Rattle.rebuild_core.specs.Laws.{SizeBound, PayloadSizeBound, IsWithinNodes}
 use Rattle.rebuild_core.specs.Payload.{alg_name, without_alg}
 use Rattle.rebuild_core.specs.Soundness.{IsSound}
 use Rattle.marked_tree.specs.Marked.{Marked, strip}
-use Rattle.claim_tree.proofs.Lists.{In-At}
+use Rattle.sd_outside.proofs.Lists.{In-At}
 use Rattle.marked_tree.proofs.Sums.{sum_of}
 use Rattle.rebuild_core.proofs.Sums.{sum_of-le}
 use Rattle.rebuild_core.proofs.Nodes.{size, shown_size, sites_size, open_size}

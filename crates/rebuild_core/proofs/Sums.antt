@@ -2,8 +2,8 @@
 use Rattle.std.proofs.Common.{◌≡◌, ℕ, suc, ◌+◌, ◌≤◌, List, [], ◌∷◌, Bool, true, false, cond, ◌⊎◌, inl, inr, ⊎_elim, refl, sym, ap, ap₂, subst, arith}
 use Rattle.std.specs.Prelude.{bytes_eq}
 use Rattle.claim_tree.specs.Tree.{Text}
-use Rattle.claim_tree.specs.Lists.{In, Repeats, AtNone}
-use Rattle.claim_tree.proofs.Lists.{bytes_same, bytes_refl, In-At}
+use Rattle.sd_outside.specs.Lists.{In, Repeats, AtNone}
+use Rattle.sd_outside.proofs.Lists.{bytes_same, bytes_refl, In-At}
 use Rattle.marked_tree.proofs.Sums.{sum_of}
 
 pub sum_of-same : {X : Type 0} (f h : X → ℕ) (xs : List X) → ((x : X) → In x xs → f x ≡ h x) → sum_of f xs ≡ sum_of h xs

@@ -1,8 +1,8 @@
 -- What the numbers of a tree's sites tell to its opening.
 use Rattle.std.proofs.Common.{◌≡◌, ℕ, zero, suc, ◌<◌, ◌≤◌, List, [], ◌∷◌, length, take, drop, Option, Some, None, refl, subst, arith}
 use Rattle.claim_tree.specs.Tree.{Text, Tree, IsOrdered}
-use Rattle.claim_tree.specs.Lists.{StandsAt}
-use Rattle.claim_tree.proofs.Lists.{At-same, At-below, At-get, one_place}
+use Rattle.sd_outside.specs.Lists.{StandsAt}
+use Rattle.sd_outside.proofs.Lists.{At-same, At-below, At-get, one_place}
 use Rattle.digest_sites.specs.Sites.{sites}
 use Rattle.digest_sites.specs.SiteCalls.{digests}
 use Rattle.digest_sites.specs.Given.{Given}

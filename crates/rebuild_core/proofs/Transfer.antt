@@ -7,13 +7,13 @@ use Rattle.std.proofs.lemmas.List.{length-map, drop-drop}
 use Rattle.std.proofs.lemmas.Bool.{cases_lt, eqb-true, eq-eqb}
 use Rattle.marked_tree.specs.Numbers.{has}
 use Rattle.claim_tree.specs.Tree.{Text, Tree, IsOrdered}
-use Rattle.claim_tree.specs.Lists.{StandsAt, In, Repeats, AtNone}
+use Rattle.sd_outside.specs.Lists.{StandsAt, In, Repeats, AtNone}
 use Rattle.digest_sites.specs.Sites.{Site, sites}
 use Rattle.digest_sites.specs.SiteCalls.{digests}
 use Rattle.digest_sites.specs.Given.{Given}
 use Rattle.rebuild_core.specs.Reached.{stands, is_in_round, is_reached, OwnedSite, owned_site, Owner, payload, value_of, value_sites, met, owned_digests, all_sites}
 use Rattle.rebuild_core.specs.Conditions.{RepeatedDigest, Unreferenced}
-use Rattle.claim_tree.proofs.Lists.{bytes_same, bytes_refl, At-left, At-same, At-below, At-In, At-get, one_place}
+use Rattle.sd_outside.proofs.Lists.{bytes_same, bytes_refl, At-left, At-same, At-below, At-In, At-get, one_place}
 use Rattle.digest_index.specs.Index.{position_or_end, interned}
 use Rattle.rebuild_core.specs.DigestNumbers.{numbers, all_interned, AllAt, IsFlatList}
 use Rattle.rebuild_core.specs.Graph.{pieces_at, Ascends, roots_in, rows_in, any_row, is_met_in, flagged_rows}

@@ -3,9 +3,9 @@ use Rattle.std.proofs.Common.{◌≡◌, ℕ, zero, suc, ◌+◌, ◌-◌, ◌<�
 use Rattle.std.proofs.lemmas.Bool.{or_left, or_right, or_cases, and_parts, and_from}
 use Rattle.marked_tree.specs.Numbers.{has}
 use Rattle.marked_tree.proofs.NumberSets.{has-In, In-has}
-use Rattle.claim_tree.specs.Lists.{StandsAt, In}
+use Rattle.sd_outside.specs.Lists.{StandsAt, In}
 use Rattle.claim_tree.proofs.Counting.{before_or_at}
-use Rattle.claim_tree.proofs.Lists.{At-below, At-same}
+use Rattle.sd_outside.proofs.Lists.{At-below, At-same}
 use Rattle.rebuild_core.specs.Graph.{any_row, is_met_in, Marks, mark_one, mark_all, trues, IsClear}
 
 -- ---- flags

@@ -4,7 +4,7 @@ use Rattle.std.specs.Prelude.{◌≡◌, ◌<◌, ◌≤◌, ℕ, List, length, 
 use Rattle.sd_outside.specs.Limits.{depth_max}
 use Rattle.claim_tree.specs.Tree.{Text, Tree, depth}
 use Rattle.claim_tree.specs.Everywhere.{EachMember}
-use Rattle.claim_tree.specs.Lists.{In, Repeats, AtNone}
+use Rattle.sd_outside.specs.Lists.{In, Repeats, AtNone}
 use Rattle.digest_sites.specs.Reserved.{sd_name, text_list}
 use Rattle.digest_sites.specs.Given.{Given}
 use Rattle.marked_tree.specs.Marked.{strip}

@@ -3,7 +3,7 @@
 use Rattle.std.specs.Prelude.{◌≡◌, ◌≤◌, List, Some}
 use Rattle.sd_outside.specs.Limits.{json_depth_max}
 use Rattle.claim_tree.specs.Tree.{Text, Tree, object, leaf, text, member_named, depth}
-use Rattle.claim_tree.specs.Lists.{In, AtNone, IsLeast}
+use Rattle.sd_outside.specs.Lists.{In, AtNone, IsLeast}
 use Rattle.digest_sites.specs.Given.{Given}
 use Rattle.rebuild_core.specs.Payload.{alg_name}
 use Rattle.rebuild_core.specs.Conditions as fails

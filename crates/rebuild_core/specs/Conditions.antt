@@ -3,7 +3,7 @@
 use Rattle.std.specs.Prelude.{◌≡◌, ℕ, zero, suc, ◌<◌, List, [], true, false, Option, Some, None, ◌⊎◌}
 use Rattle.sd_outside.specs.Limits.{depth_max}
 use Rattle.claim_tree.specs.Tree.{Text, Tree, depth}
-use Rattle.claim_tree.specs.Lists.{StandsAt, IsSuchAt, In, Repeats}
+use Rattle.sd_outside.specs.Lists.{StandsAt, IsSuchAt, In, Repeats}
 use Rattle.digest_sites.specs.Reserved.{misuses, sd_name, dots_name}
 use Rattle.digest_sites.specs.Given.{Given}
 use Rattle.digest_sites.specs.declared.site.SiteKind.{SiteKind}

@@ -1,7 +1,7 @@
 -- For private functions: digests as numbers, by the positions at which they were first seen.
 use Rattle.std.specs.Prelude.{◌≡◌, ℕ, List, [], ◌∷◌, map, length}
 use Rattle.claim_tree.specs.Tree.{Text, Tree}
-use Rattle.claim_tree.specs.Lists.{StandsAt, Repeats, AtNone}
+use Rattle.sd_outside.specs.Lists.{StandsAt, Repeats, AtNone}
 use Rattle.digest_index.specs.Index.{position_or_end, interned}
 use Rattle.digest_sites.specs.Given.{Given}
 use Rattle.rebuild_core.specs.Payload.{without_alg}

@@ -1,6 +1,6 @@
 -- For private functions: the met list by numbers, and why the disclosures alone are refused.
 use Rattle.std.specs.Prelude.{ℕ, List, ◌++◌, Bool}
-use Rattle.claim_tree.specs.Lists.{IsLeast}
+use Rattle.sd_outside.specs.Lists.{IsLeast}
 use Rattle.digest_sites.specs.Given.{Given}
 use Rattle.rebuild_core.specs.Conditions as fails
 use Rattle.rebuild_core.specs.Graph.{roots_in, rows_in, flagged_rows}

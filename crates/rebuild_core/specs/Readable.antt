@@ -1,7 +1,7 @@
 -- The order of the names in what a token says.
 use Rattle.std.specs.Prelude.{List}
 use Rattle.claim_tree.specs.Tree.{Tree, IsOrdered}
-use Rattle.claim_tree.specs.Lists.{In}
+use Rattle.sd_outside.specs.Lists.{In}
 use Rattle.digest_sites.specs.Given.{Given}
 
 -- the names of each object ascend, each once, as they do in every tree that is read

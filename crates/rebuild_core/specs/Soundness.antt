@@ -2,7 +2,7 @@
 use Rattle.std.specs.Prelude.{◌≤◌, List}
 use Rattle.sd_outside.specs.Limits.{depth_max}
 use Rattle.claim_tree.specs.Tree.{Tree, depth}
-use Rattle.claim_tree.specs.Lists.{AtNone}
+use Rattle.sd_outside.specs.Lists.{AtNone}
 use Rattle.digest_sites.specs.Given.{Given}
 use Rattle.marked_tree.specs.Marked.{strip}
 use Rattle.rebuild_core.specs.Opening.{processed}

@@ -1,6 +1,6 @@
 // Which disclosures are reached, and the met list, over numbers.
 ghost use Rattle.std.specs.Prelude.{◌≡◌, ◌<◌, ◌≤◌, ◌++◌, ◌∷◌, [], ℕ, suc, true, false, length, IfOk, OnOk, slice_index_or, replicate, MatchOption};
-ghost use Rattle.claim_tree.specs.Lists.{In, AtNone, IsLeast, Repeats};
+ghost use Rattle.sd_outside.specs.Lists.{In, AtNone, IsLeast, Repeats};
 ghost use Rattle.rebuild_core.specs.Graph.{pieces_at, Ascends, roots_in, rows_in, is_met_in, mark_one, mark_all, flagged_rows, IsClear};
 
 use sd_outside::NoMemory;

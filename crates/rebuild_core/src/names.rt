@@ -1,7 +1,7 @@
 // Whether each disclosure fits its place: its shape, its name, and the names beside it.
 ghost use Rattle.std.specs.Prelude.{◌≡◌, ◌<◌, ◌&&◌, ℕ, true, not, eqb, if◌then◌else◌, ◌↔◌, map, length, IsTrue, IfOk, OnOk, MatchOption, MatchResult, bytes_eq, option_map};
 ghost use Rattle.claim_tree.specs.Tree.{Text};
-ghost use Rattle.claim_tree.specs.Lists.{StandsAt, In, AtNone, IsLeast};
+ghost use Rattle.sd_outside.specs.Lists.{StandsAt, In, AtNone, IsLeast};
 ghost use Rattle.claim_tree.specs.View.{tree_of};
 ghost use Rattle.digest_sites.specs.GivenView.{given_of};
 ghost use Rattle.rebuild_core.specs.Payload.{alg_name, without_alg};

@@ -1,6 +1,6 @@
 // Digests as numbers, by the places at which they were first seen.
 ghost use Rattle.std.specs.Prelude.{◌≡◌, ◌≤◌, ◌^◌, ◌-◌, [], length, IfOk, OnOk, MatchOption};
-ghost use Rattle.claim_tree.specs.Lists.{AtNone, IsLeast};
+ghost use Rattle.sd_outside.specs.Lists.{AtNone, IsLeast};
 ghost use Rattle.rebuild_core.specs.Reached.{given_digests};
 ghost use Rattle.rebuild_core.specs.Conditions.{RepeatedDisclosure};
 ghost use Rattle.rebuild_core.specs.LookUps.{counted, RoseWithin};

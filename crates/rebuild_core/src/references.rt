@@ -1,7 +1,7 @@
 // Whether each disclosure stands at one place.
 ghost use Rattle.std.specs.Prelude.{◌≡◌, ◌<◌, ◌≤◌, ℕ, suc, map, length, IfOk, OnOk, IfErr, MatchOption};
 ghost use Rattle.sd_outside.specs.Limits.{json_depth_max};
-ghost use Rattle.claim_tree.specs.Lists.{In, AtNone, IsLeast, Repeats};
+ghost use Rattle.sd_outside.specs.Lists.{In, AtNone, IsLeast, Repeats};
 ghost use Rattle.claim_tree.specs.Tree.{depth};
 ghost use Rattle.claim_tree.specs.View.{tree_of};
 ghost use Rattle.rebuild_core.specs.Answer.{IsPayload, ValuesShallow, IsProcessRefused};

@@ -1,1 +1,3 @@
 mod Files
+pub mod Lists
+pub mod Membership

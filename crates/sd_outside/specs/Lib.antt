@@ -1,4 +1,5 @@
 pub mod Causes
 pub mod Limits
+pub mod Lists
 pub mod Memory
 pub mod Status

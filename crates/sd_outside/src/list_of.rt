@@ -1,6 +1,7 @@
 // Lists that grow, and say so where there is no memory.
-ghost use Rattle.std.specs.Prelude.{◌≡◌, [], ◌∷◌, ◌++◌, length, OnOk, OnErr, slice_get};
+ghost use Rattle.std.specs.Prelude.{◌≡◌, ◌↔◌, [], ◌∷◌, ◌++◌, length, IsTrue, OnOk, OnErr, slice_get};
 ghost use Rattle.std.specs.Option.{option_copied};
+ghost use Rattle.sd_outside.specs.Lists.{StandsAt, In};
 
 use crate::{NoMemory, TextBox};
 use std::alloc::Global;
@@ -69,5 +70,29 @@ impl<T: Drop> ListOf<T> {
         ensures { option_copied result ≡ slice_get self.now i }
     {
         self.elements.get(i)
+    }
+}
+
+impl ListOf<TextBox> {
+    // Whether this text stands at a position.
+    fn is_at(&self, i: usize, text: &str) -> bool
+        ensures { IsTrue result ↔ StandsAt self.now i text.now }
+    {
+        match self.at(i) {
+            Some(other) => other.as_str() == text,
+            None => false,
+        }
+    }
+
+    /// Whether a text is one of them.
+    pub fn contains(&self, text: &str) -> bool
+        ensures { IsTrue result ↔ In text.now self.now }
+    {
+        for i in 0..self.len() {
+            if self.is_at(i, text) {
+                return true;
+            }
+        }
+        false
     }
 }

@@ -6,8 +6,8 @@ use Rattle.claim_tree.specs.Tree.{Text, Tree}
 use Rattle.cli_parts.specs.Lines.{line, refusal}
 use Rattle.cli_parts.specs.Replies.{Reply, gives, refuses, unreadable}
 use Rattle.cli_parts.specs.Telling.{TellsFileFault}
-use Rattle.compact_form.specs.Lowest.{IsLowest}
-use Rattle.compact_form.specs.declared.fault.Fault.{Fault}
+use Rattle.refusals.specs.Lowest.{IsLowest}
+use Rattle.refusals.specs.declared.fault.Fault.{Fault}
 use Rattle.sdjwt_c.specs.Handed.{HandsBy, IsInRoom, IsTooLong}
 use Rattle.sdjwt_c.specs.Questions.{issuer_question, holder_question}
 use Rattle.sdjwt_c.specs.Said.{SaysAlgs, SaysNoAlgs}

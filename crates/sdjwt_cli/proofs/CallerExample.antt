@@ -10,8 +10,8 @@ use Rattle.b64url_text.proofs.Texts.{AreBytes-text}
 use Rattle.claim_tree.specs.JsonText.{json_text}
 use Rattle.claim_tree.specs.Tree.{Text, object}
 use Rattle.compact_form.specs.Compact.{compact, hashed, jwt, spelled}
-use Rattle.compact_form.specs.declared.condition.Condition.{Condition}
-use Rattle.compact_form.specs.declared.fault.Place.{Place}
+use Rattle.refusals.specs.declared.condition.Condition.{Condition}
+use Rattle.refusals.specs.declared.fault.Place.{Place}
 use Rattle.compact_form.specs.declared.parts.Parts.{Parts}
 use Rattle.hmac_sign.specs.Agreement.{IsOfBytes}
 use Rattle.jws_part.specs.Header.{header_members}

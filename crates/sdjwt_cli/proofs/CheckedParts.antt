@@ -4,7 +4,7 @@ use Rattle.std.specs.Prelude.{option_and_then}
 use Rattle.std.specs.List.{AllZip}
 use Rattle.b64url_text.specs.Base64url.{AreBytes, b64}
 use Rattle.claim_tree.specs.Tree.{Tree, no_members}
-use Rattle.claim_tree.proofs.Lists.{In-At}
+use Rattle.sd_outside.proofs.Lists.{In-At}
 use Rattle.compact_form.specs.declared.parts.JwtParts.{JwtParts}
 use Rattle.compact_form.specs.declared.parts.Parts.{Parts}
 use Rattle.digest_sites.specs.Given.{Given}

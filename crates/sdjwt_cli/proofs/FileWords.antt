@@ -2,7 +2,7 @@
 use Rattle.std.proofs.Common.{◌≡◌, ◌⊎◌, inl, inr, ℕ, ◌+◌, List, [], ◌∷◌, Bool, true, false, cond, Option, None, Some, refl, sym, subst}
 use Rattle.std.specs.Prelude.{bytes_eq, codes}
 use Rattle.std.specs.Option.{option_map}
-use Rattle.claim_tree.specs.Lists.{StandsAt, In}
+use Rattle.sd_outside.specs.Lists.{StandsAt, In}
 use Rattle.sdjwt_cli.specs.Command.{Command, split, show, verify, issue, present, convert, gen, command_of, NamedFile, files_of}
 use Rattle.sdjwt_cli.specs.Forms.{form_of}
 use Rattle.sdjwt_cli.specs.Generated.{count_of}

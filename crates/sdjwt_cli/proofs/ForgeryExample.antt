@@ -1,6 +1,6 @@
 -- Of the worked token the given name is presented without key binding: each premise of the law against forgery is met.
 use Rattle.std.proofs.Common.{inl, inr, [], None, refl}
-use Rattle.claim_tree.specs.Lists.{In}
+use Rattle.sd_outside.specs.Lists.{In}
 use Rattle.claim_tree.specs.Tree.{Text}
 use Rattle.compact_form.specs.declared.parts.Parts.{Parts}
 use Rattle.compact_form.specs.Compact.{compact}

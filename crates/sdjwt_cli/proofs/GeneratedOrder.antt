@@ -3,13 +3,13 @@ use Rattle.std.proofs.Common.{◌≡◌, ◌≢◌, ◌⊎◌, inl, inr, ℕ, ze
 use Rattle.std.specs.Prelude.{◌==◌, option_and_then, if◌then◌else◌}
 use Rattle.std.proofs.lemmas.List.Folds.{list_any-append}
 use Rattle.claim_tree.specs.Tree.{Text, Tree, object, members_depth, member_named, get}
-use Rattle.claim_tree.specs.Lists.{In}
+use Rattle.sd_outside.specs.Lists.{In}
 use Rattle.claim_tree.specs.Path.{tree_at}
-use Rattle.claim_tree.proofs.Lists.{bytes_same, bytes_refl, In-append}
+use Rattle.sd_outside.proofs.Lists.{bytes_same, bytes_refl, In-append}
 use Rattle.claim_tree.proofs.OtherMembers.{named_inserted, other_inserted, depth-inserted}
-use Rattle.compact_form.specs.declared.condition.Condition.{Condition}
-use Rattle.compact_form.specs.Lowest.{NoneFails}
-use Rattle.compact_form.proofs.Lowest.{holds_too, none_fails}
+use Rattle.refusals.specs.declared.condition.Condition.{Condition}
+use Rattle.refusals.specs.Lowest.{NoneFails}
+use Rattle.refusals.proofs.Lowest.{holds_too, none_fails}
 use Rattle.jws_part.specs.Times.{IsTimeUnreadable}
 use Rattle.marked_tree.specs.Paths.{Path, is_among, same_path, below, chosen}
 use Rattle.verifier_core.specs.Verdict.{ClaimFails, demands_of}

@@ -4,7 +4,7 @@ use Rattle.std.specs.Prelude.{if◌then◌else◌}
 use Rattle.std.proofs.Math.Arith.{le_of_le-suc-ne}
 use Rattle.std.proofs.lemmas.Fmt.{decimal_injective}
 use Rattle.sd_outside.specs.Limits.{members_max}
-use Rattle.claim_tree.proofs.Lists.{bytes_same, bytes_refl}
+use Rattle.sd_outside.proofs.Lists.{bytes_same, bytes_refl}
 use Rattle.sdjwt_cli.specs.Generated.{number_up_to, count_of}
 
 number_none : (n : ℕ) (word : List ℕ) → ((i : ℕ) → 0 < i → i ≤ n → decimal i ≢ word) → number_up_to n word ≡ None

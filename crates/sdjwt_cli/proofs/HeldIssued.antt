@@ -7,7 +7,7 @@ use Rattle.b64url_text.proofs.Lengths.{length-b64}
 use Rattle.sd_outside.specs.Limits.{issue_max, count_max}
 use Rattle.compact_form.specs.declared.parts.Parts.{Parts}
 use Rattle.compact_form.specs.Compact.{compact, AreWords}
-use Rattle.compact_form.specs.Lowest.{NoneApplies}
+use Rattle.refusals.specs.Lowest.{NoneApplies}
 use Rattle.claim_tree.proofs.Counting.{not_below}
 use Rattle.hmac_sign.specs.Hmac.{AlgKey}
 use Rattle.json_form.specs.Token.{IsToken}

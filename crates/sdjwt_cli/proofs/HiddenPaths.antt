@@ -9,16 +9,16 @@ use Rattle.std.proofs.lemmas.Map.Keys.{IsDistinct-head, IsDistinct-tail, IsDisti
 use Rattle.std.proofs.lemmas.Map.Made.{length-from_keys}
 use Rattle.std.proofs.lemmas.Bool.{or_left, or_right}
 use Rattle.claim_tree.specs.Tree.{Text, Tree, leaf, array, object, Elements, no_elements, element, elements_len, Members, no_members, member, member_named, names, IsOrdered, ElementsOrdered, MembersOrdered}
-use Rattle.claim_tree.specs.Lists.{In}
+use Rattle.sd_outside.specs.Lists.{In}
 use Rattle.claim_tree.specs.Path.{tree_at, element_on}
-use Rattle.claim_tree.proofs.Lists.{bytes_same, bytes_refl, In-left, In-right, In-append, In-map, In-of_map, In-At, list_any-In}
+use Rattle.sd_outside.proofs.Lists.{bytes_same, bytes_refl, In-left, In-right, In-append, In-map, In-of_map, In-At, list_any-In}
 use Rattle.marked_tree.specs.Paths.{Path, below, is_among, same_path}
 use Rattle.marked_tree.specs.Ways.{closing, closing_elements, closing_members, own_path}
 use Rattle.marked_tree.proofs.Closing.{marks_close_holds}
 use Rattle.claim_tree.proofs.SamePaths.{path_same, path_refl}
 use Rattle.marked_tree.proofs.DifferentPaths.{path_laws}
 use Rattle.marked_tree.proofs.Puts.{IsBeforeAll-not_in}
-use Rattle.compact_form.specs.Lowest.{NoneApplies}
+use Rattle.refusals.specs.Lowest.{NoneApplies}
 use Rattle.issuer_core.specs.Digests.{hidden_of}
 use Rattle.issuer_core.specs.Order.{Order}
 use Rattle.issuer_core.specs.OrderRefusals.{AppliesToOrder}

@@ -11,7 +11,7 @@ use Rattle.disclosure.specs.Digest.{digest_of}
 use Rattle.disclosure.specs.Disclosure.{array_of, disclosure_text}
 use Rattle.disclosure.specs.declared.digests.HashAlg.{HashAlg}
 use Rattle.issuer_core.specs.Salts.{salt_of}
-use Rattle.claim_tree.specs.Lists.{StandsAt, Repeats}
+use Rattle.sd_outside.specs.Lists.{StandsAt, Repeats}
 use Rattle.digest_sites.specs.Given.{Given}
 use Rattle.digest_sites.specs.Reserved.{sd_name, dots_name}
 use Rattle.rebuild_core.specs.Payload.{alg_name}
@@ -19,7 +19,7 @@ use Rattle.rebuild_core.specs.Free.{HasNoReserved}
 use Rattle.claim_tree.specs.JsonText.{json_text}
 use Rattle.compact_form.specs.declared.parts.Parts.{Parts}
 use Rattle.compact_form.specs.Compact.{compact}
-use Rattle.compact_form.specs.Lowest.{NoneApplies}
+use Rattle.refusals.specs.Lowest.{NoneApplies}
 use Rattle.b64url_text.proofs.Codes.{IsWord-b64}
 use Rattle.issuer_core.specs.Issue.{ClashesAt}
 use Rattle.issuer_core.specs.Laid.{IsLaid}

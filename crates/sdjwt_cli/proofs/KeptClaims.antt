@@ -2,15 +2,15 @@
 use Rattle.std.proofs.Common.{◌≡◌, inl, inr, List, ◌∷◌, Bool, true, false, Option, codes, refl, ap, subst}
 use Rattle.std.specs.Prelude.{option_and_then}
 use Rattle.claim_tree.specs.Tree.{Text, Tree}
-use Rattle.claim_tree.specs.Lists.{In}
-use Rattle.claim_tree.proofs.Lists.{In-At, list_any-In}
+use Rattle.sd_outside.specs.Lists.{In}
+use Rattle.sd_outside.proofs.Lists.{In-At, list_any-In}
 use Rattle.marked_tree.specs.Paths.{Path, below, is_among, same_path, chosen}
 use Rattle.marked_tree.proofs.KeptMembers.{NonePasses, claim_kept}
 use Rattle.hmac_sign.specs.Keys.{text_under}
 use Rattle.key_binding.specs.Judged.{holder_kid}
 use Rattle.issuer_core.specs.Digests.{marked_claims}
 use Rattle.issuer_core.specs.Order.{Order}
-use Rattle.compact_form.specs.Lowest.{NoneApplies}
+use Rattle.refusals.specs.Lowest.{NoneApplies}
 use Rattle.issuer_core.specs.OrderRefusals.{AppliesToOrder, IsProtected, protected_names}
 use Rattle.issuer_core.specs.declared.errors.IssueError.TheVariants.{ProtectedClaim}
 use Rattle.claim_tree.proofs.SamePaths.{path_same}

@@ -4,7 +4,7 @@ use Rattle.std.specs.Prelude.{option_and_then, option_map}
 use Rattle.json.specs.Print.{escape_byte}
 use Rattle.b64url_text.proofs.Codes.{IsWord-b64}
 use Rattle.claim_tree.specs.JsonText.{json_text}
-use Rattle.claim_tree.specs.Lists.{In}
+use Rattle.sd_outside.specs.Lists.{In}
 use Rattle.claim_tree.specs.Tree.{Text, Tree, object}
 use Rattle.compact_form.specs.declared.parts.Parts.{Parts}
 use Rattle.hmac_sign.specs.Algs.{alg_text, algs}

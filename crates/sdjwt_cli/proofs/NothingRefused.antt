@@ -2,7 +2,7 @@
 use Rattle.std.proofs.Common.{◌≡◌, ◌≢◌, ℕ, ◌<◌, true, List, length, Option, Some, refl, sym, ap, subst, ◌∙◌, arith}
 use Rattle.claim_tree.specs.Path.{tree_at}
 use Rattle.claim_tree.specs.Tree.{Text, Tree}
-use Rattle.claim_tree.proofs.Lists.{At-In}
+use Rattle.sd_outside.proofs.Lists.{At-In}
 use Rattle.sd_outside.specs.Limits.{compact_max}
 use Rattle.compact_form.specs.declared.parts.Parts.{Parts}
 use Rattle.compact_form.specs.Compact.{compact}
@@ -20,7 +20,7 @@ use Rattle.selection_core.specs.ChoiceRefusals.{IsMissing}
 use Rattle.issuer_core.specs.Digests.{marked_claims}
 use Rattle.issuer_core.specs.Laid.{with_alg}
 use Rattle.issuer_core.specs.Order.{Order}
-use Rattle.compact_form.specs.Faults.{failed_of}
+use Rattle.refusals.specs.Faults.{failed_of}
 use Rattle.holder_core.specs.Asked.{Asked, BindingAsked}
 use Rattle.holder_core.specs.declared.errors.PresentError.{PresentError}
 use Rattle.holder_core.specs.declared.errors.PresentError.TheVariants.{Memory, Token as OnCondition, HasBinding, NoSuchPlace, ConsentRefused, BindingKeyDiffers, SignFailed, TooLong}

@@ -3,13 +3,13 @@ use Rattle.std.proofs.Common.{◌≡◌, ℕ, ◌<◌, Bool, true, List, length,
 use Rattle.std.specs.Prelude.{option_and_then}
 use Rattle.std.specs.List.{AllZip}
 use Rattle.claim_tree.specs.Tree.{Text, Tree, no_members}
-use Rattle.compact_form.specs.declared.fault.Place.{Place}
-use Rattle.compact_form.specs.Faults.{fault_at}
+use Rattle.refusals.specs.declared.fault.Place.{Place}
+use Rattle.refusals.specs.Faults.{fault_at}
 use Rattle.compact_form.specs.declared.parts.JwtParts.{JwtParts}
 use Rattle.compact_form.specs.declared.parts.Parts.{Parts}
 use Rattle.compact_form.specs.Compact.{hashed, compact}
-use Rattle.compact_form.specs.declared.condition.Condition.{Condition}
-use Rattle.compact_form.specs.Lowest.{NoneFails}
+use Rattle.refusals.specs.declared.condition.Condition.{Condition}
+use Rattle.refusals.specs.Lowest.{NoneFails}
 use Rattle.digest_sites.specs.Given.{Given}
 use Rattle.disclosure.specs.declared.digests.HashAlg.{HashAlg}
 use Rattle.hmac_sign.specs.Keys.{key_named}

@@ -1,16 +1,16 @@
 -- The command `show` has one verdict over a file.
 use Rattle.std.proofs.Common.{◌≡◌, ◌<◌, ℕ, List, ◌∷◌, ◌++◌, length, Option, None, Some, refl, ap, ◌∙◌, sym, subst, arith}
 use Rattle.std.specs.List.{AllZip}
-use Rattle.claim_tree.specs.Lists.{StandsAt, IsSuchAt, IsLeast}
+use Rattle.sd_outside.specs.Lists.{StandsAt, IsSuchAt, IsLeast}
 use Rattle.claim_tree.specs.Tree.{Text, Tree}
-use Rattle.claim_tree.proofs.Lists.{At-get, At-left, At-right, At-same, least_one}
+use Rattle.sd_outside.proofs.Lists.{At-get, At-left, At-right, At-same, least_one}
 use Rattle.jws_part.specs.Part.{IsBody, IsNoObject}
 use Rattle.jws_part.specs.Header.{IsHeaderUnreadable}
 use Rattle.jws_part.proofs.Parts as bodies
 use Rattle.disclosure.specs.Digest.{payload_hash}
-use Rattle.compact_form.specs.declared.condition.Condition.{Condition}
-use Rattle.compact_form.specs.Faults.{placed}
-use Rattle.compact_form.specs.declared.fault.Fault.{Fault}
+use Rattle.refusals.specs.declared.condition.Condition.{Condition}
+use Rattle.refusals.specs.Faults.{placed}
+use Rattle.refusals.specs.declared.fault.Fault.{Fault}
 use Rattle.compact_form.specs.declared.parts.JwtParts.{JwtParts}
 use Rattle.json_form.specs.declared.token.Token.{Token}
 use Rattle.json_form.specs.Token.{IsToken}

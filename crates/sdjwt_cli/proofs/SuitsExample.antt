@@ -1,11 +1,11 @@
 -- An order, what a holder is asked, and a policy that suits: the premise of the law of presenting at worked values.
 use Rattle.std.proofs.Common.{◌≡◌, ◌≢◌, inl, inr, ℕ, zero, suc, true, false, List, [], ◌∷◌, Option, None, Some, codes, refl, sym, ap, subst, ◌∙◌, arith}
 use Rattle.claim_tree.specs.Tree.{Text, Tree, leaf, text, object, Members, no_members, member, get}
-use Rattle.claim_tree.specs.Lists.{StandsAt, In}
+use Rattle.sd_outside.specs.Lists.{StandsAt, In}
 use Rattle.claim_tree.specs.Path.{is_front, tree_at}
-use Rattle.compact_form.specs.Lowest.{NoneFails}
-use Rattle.compact_form.specs.declared.condition.Condition.{Condition}
-use Rattle.compact_form.proofs.Lowest.{holds_too, none_fails}
+use Rattle.refusals.specs.Lowest.{NoneFails}
+use Rattle.refusals.specs.declared.condition.Condition.{Condition}
+use Rattle.refusals.proofs.Lowest.{holds_too, none_fails}
 use Rattle.disclosure.specs.declared.digests.HashAlg.{HashAlg}
 use Rattle.hmac_sign.specs.Hmac.{AlgKey, alg_key, key_block}
 use Rattle.hmac_sign.specs.declared.alg.Alg.{Alg}

@@ -8,9 +8,9 @@ use Rattle.claim_tree.specs.View.{tree_of}
 use Rattle.claim_tree.specs.JsonText.{json_text}
 use Rattle.claim_tree.specs.declared.tree.Tree as code
 use Rattle.compact_form.specs.declared.parts.Parts.{Parts}
-use Rattle.compact_form.specs.declared.fault.Fault.{Fault}
+use Rattle.refusals.specs.declared.fault.Fault.{Fault}
 use Rattle.compact_form.specs.Compact.{compact}
-use Rattle.compact_form.specs.Lowest.{IsLowest}
+use Rattle.refusals.specs.Lowest.{IsLowest}
 use Rattle.digest_sites.specs.Given.{Given}
 use Rattle.hmac_sign.specs.Hmac.{IsGood, hs256_key}
 use Rattle.marked_tree.specs.Marked.{strip}

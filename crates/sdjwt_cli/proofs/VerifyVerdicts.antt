@@ -3,7 +3,7 @@ use Rattle.std.proofs.Common.{◌≡◌, ℕ, List, ap, ◌∙◌, sym, subst}
 use Rattle.claim_tree.specs.JsonText.{json_text}
 use Rattle.marked_tree.specs.Marked.{Marked, strip}
 use Rattle.verifier_core.specs.Verdict.{Fails, IsAccepted, demands_of}
-use Rattle.compact_form.specs.Lowest.{IsLowest}
+use Rattle.refusals.specs.Lowest.{IsLowest}
 use Rattle.verifier_core.specs.declared.policy.Policy.{Policy}
 use Rattle.verifier_core.proofs.Policies as policies
 use Rattle.verifier_core.proofs.OneVerdict as verdicts

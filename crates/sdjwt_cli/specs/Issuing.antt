@@ -12,7 +12,7 @@ use Rattle.issuer_core.specs.declared.order_file.IssueFile.{IssueFile}
 use Rattle.issuer_core.specs.Order.{Order}
 use Rattle.issuer_core.specs.OrderFile.{AsksFor, IsOrderFile, IsOrderFileRefused}
 use Rattle.issuer_core.specs.GoodOrder.{IsWritable}
-use Rattle.compact_form.specs.Lowest.{NoneApplies}
+use Rattle.refusals.specs.Lowest.{NoneApplies}
 use Rattle.issuer_core.specs.OrderRefusals.{AppliesToOrder, IsLowestRefusal}
 use Rattle.issuer_core.specs.RefusalLine.{issue_refusal_text}
 use Rattle.issuer_core.specs.Seed.{maker_of}

@@ -3,10 +3,10 @@
 use Rattle.std.specs.Prelude.{◌≡◌, ℕ, List, ◌++◌, map, eqb}
 use Rattle.std.specs.List.{AllZip, IsDistinct, list_any}
 use Rattle.b64url_text.specs.Base64url.{AreBytes}
-use Rattle.claim_tree.specs.Lists.{StandsAt, In}
+use Rattle.sd_outside.specs.Lists.{StandsAt, In}
 use Rattle.claim_tree.specs.Tree.{Text, IsOrdered}
 use Rattle.compact_form.specs.declared.parts.Parts.{Parts}
-use Rattle.compact_form.specs.Lowest.{NoneApplies}
+use Rattle.refusals.specs.Lowest.{NoneApplies}
 use Rattle.disclosure.specs.Digest.{digest_of}
 use Rattle.hmac_sign.specs.Signatures.{Meaning}
 use Rattle.json_form.specs.Token.{IsToken}

@@ -5,7 +5,7 @@ use Rattle.std.specs.Str.{IsUtf8}
 use Rattle.claim_tree.specs.Tree.{Text, Tree, IsOrdered}
 use Rattle.compact_form.specs.declared.parts.Parts.{Parts}
 use Rattle.compact_form.specs.Compact.{compact, AreWords}
-use Rattle.compact_form.specs.Lowest.{NoneApplies}
+use Rattle.refusals.specs.Lowest.{NoneApplies}
 use Rattle.hmac_sign.specs.Agreement.{Implies, IsOfBytes}
 use Rattle.hmac_sign.specs.Hmac.{AlgKey, hs256_key}
 use Rattle.json_form.specs.Token.{IsToken}

@@ -2,7 +2,7 @@
 use Rattle.std.specs.Prelude.{◌≡◌, ℕ, ◌+◌, List, [], ◌∷◌, ◌++◌, Option, None, Some, codes}
 use Rattle.std.specs.Fmt.{decimal}
 use Rattle.std.specs.List.{AllZip}
-use Rattle.claim_tree.specs.Lists.{IsSuchAt, IsLeast}
+use Rattle.sd_outside.specs.Lists.{IsSuchAt, IsLeast}
 use Rattle.claim_tree.specs.Tree.{Text, Tree, Members, leaf, text}
 use Rattle.claim_tree.specs.JsonText.{json_text}
 use Rattle.jws_part.specs.Part.{IsBody, IsNoObject}
@@ -10,9 +10,9 @@ use Rattle.jws_part.specs.Header.{IsHeaderUnreadable}
 use Rattle.disclosure.specs.Digest.{payload_hash}
 use Rattle.disclosure.specs.declared.digests.HashAlg.{HashAlg}
 use Rattle.digest_sites.specs.Given.{Given}
-use Rattle.compact_form.specs.declared.condition.Condition.{Condition}
-use Rattle.compact_form.specs.Faults.{unplaced, placed}
-use Rattle.compact_form.specs.declared.fault.Fault.{Fault}
+use Rattle.refusals.specs.declared.condition.Condition.{Condition}
+use Rattle.refusals.specs.Faults.{unplaced, placed}
+use Rattle.refusals.specs.declared.fault.Fault.{Fault}
 use Rattle.compact_form.specs.declared.parts.JwtParts.{JwtParts}
 use Rattle.json_form.specs.declared.token.Token.{Token}
 use Rattle.json_form.specs.Token.{IsTextRefused, IsToken}

@@ -1,11 +1,11 @@
 -- For private functions: what the steps of `show` answer.
 use Rattle.std.specs.Prelude.{◌≡◌, ℕ, List, ◌++◌}
 use Rattle.std.specs.List.{AllZip}
-use Rattle.claim_tree.specs.Lists.{IsSuchAt, IsLeast}
+use Rattle.sd_outside.specs.Lists.{IsSuchAt, IsLeast}
 use Rattle.claim_tree.specs.Tree.{Text}
-use Rattle.compact_form.specs.Faults.{placed}
-use Rattle.compact_form.specs.declared.condition.Condition.{Condition}
-use Rattle.compact_form.specs.declared.fault.Fault.{Fault}
+use Rattle.refusals.specs.Faults.{placed}
+use Rattle.refusals.specs.declared.condition.Condition.{Condition}
+use Rattle.refusals.specs.declared.fault.Fault.{Fault}
 use Rattle.claim_tree.specs.View.{tree_of}
 use Rattle.disclosure.specs.Digest.{digest_of}
 use Rattle.disclosure.specs.declared.digests.HashAlg.{HashAlg}

@@ -1,9 +1,9 @@
 -- When a policy suits what a holder is asked to present of a token that is issued for an order.
 use Rattle.std.specs.Prelude.{◌≡◌, ◌≢◌, ◌≤◌, ℕ, ◌+◌, true, false, List, Option, None, Some}
 use Rattle.claim_tree.specs.Tree.{Text, Tree}
-use Rattle.claim_tree.specs.Lists.{In}
+use Rattle.sd_outside.specs.Lists.{In}
 use Rattle.claim_tree.specs.Path.{tree_at}
-use Rattle.compact_form.specs.Lowest.{NoneFails}
+use Rattle.refusals.specs.Lowest.{NoneFails}
 use Rattle.hmac_sign.specs.Algs.{alg_text}
 use Rattle.hmac_sign.specs.Hmac.{AlgKey}
 use Rattle.hmac_sign.specs.Keys.{key_named, picked_key}

@@ -2,11 +2,11 @@
 -- when it refuses one.
 use Rattle.std.specs.Prelude.{◌≡◌, ℕ, List}
 use Rattle.claim_tree.specs.JsonText.{json_text}
-use Rattle.compact_form.specs.declared.fault.Fault.{Fault}
+use Rattle.refusals.specs.declared.fault.Fault.{Fault}
 use Rattle.marked_tree.specs.Marked.{Marked, strip}
 use Rattle.verifier_core.specs.PolicyFile.{IsPolicyFile}
 use Rattle.verifier_core.specs.Verdict.{Fails, IsAccepted}
-use Rattle.compact_form.specs.Lowest.{IsLowest}
+use Rattle.refusals.specs.Lowest.{IsLowest}
 use Rattle.verifier_core.specs.declared.policy.Policy.{Policy}
 use Rattle.cli_parts.specs.Lines.{line, refusal}
 

@@ -10,8 +10,9 @@ ghost use Rattle.cli_parts.specs.Telling.{TellsFault};
 use crate::form::Form;
 use crate::token_file::token_of;
 use cli_parts::{Stop, as_line, refused};
-use compact_form::{Condition, FILE_MAX, print};
+use compact_form::{FILE_MAX, print};
 use json_form::{TokenText, flat_text, general_text};
+use refusals::Condition;
 use sd_outside::{NoMemory, TextBox};
 use std::alloc::Global;
 

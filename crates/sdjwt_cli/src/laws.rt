@@ -3,7 +3,7 @@ ghost use Rattle.std.specs.Prelude.{◌≡◌, ◌⊎◌, ◌+◌, ℕ, List, So
 ghost use Rattle.std.specs.Io.KnownBytes.{Appends};
 ghost use Rattle.sd_outside.specs.Causes.{Rose};
 ghost use Rattle.sd_outside.specs.declared.status.Status.{Status};
-ghost use Rattle.claim_tree.specs.Lists.{StandsAt, In};
+ghost use Rattle.sd_outside.specs.Lists.{StandsAt, In};
 ghost use Rattle.claim_tree.specs.Tree.{Tree};
 ghost use Rattle.sdjwt_cli.specs.Command.{Command, command_of, NamedFile, files_of};
 ghost use Rattle.cli_parts.specs.Replies.{Reply, gives};

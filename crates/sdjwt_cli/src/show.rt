@@ -16,10 +16,11 @@ use crate::split::push_binding;
 use crate::token_file::token_of;
 use claim_tree::{JsonReader, Tree, TreeMap, write};
 use cli_parts::{Stop, refused};
-use compact_form::{Condition, JwtView, Place};
+use compact_form::JwtView;
 use disclosure::{Disclosed, DisclosureError, DisclosureReader, HashAlg, digest, payload_hash};
 use json_form::{Disclosures, TokenView};
 use jws_part::{BodyError, HeaderError, read_body_with, read_header_with};
+use refusals::{Condition, Place};
 use sd_outside::{NoMemory, TextBox};
 use std::alloc::Global;
 

@@ -3,8 +3,8 @@ use Rattle.std.proofs.Common.{◌≡◌, ◌≢◌, ℕ, ◌<◌, List, sym, ap,
 use Rattle.std.specs.Prelude.{◌^◌}
 use Rattle.sd_outside.specs.Causes.{Rose}
 use Rattle.claim_tree.specs.Tree.{Tree}
-use Rattle.compact_form.specs.Lowest.{IsLowest}
-use Rattle.compact_form.specs.declared.fault.Fault.{Fault}
+use Rattle.refusals.specs.Lowest.{IsLowest}
+use Rattle.refusals.specs.declared.fault.Fault.{Fault}
 use Rattle.hmac_sign.specs.Hmac.{AlgKey, hs256_key, IsGood}
 use Rattle.json_form.specs.Alone.{alone}
 use Rattle.json_form.specs.Token.{IsToken}

@@ -1,4 +1,5 @@
 -- The lemmas of each library, behind its name.
+pub use Rattle.refusals.proofs as refusals
 pub use Rattle.b64url_text.proofs as b64url_text
 pub use Rattle.compact_form.proofs as compact_form
 pub use Rattle.claim_tree.proofs as claim_tree

@@ -1,5 +1,6 @@
 pub mod EndToEnd
 pub use Rattle.sd_outside.specs as sd_outside
+pub use Rattle.refusals.specs as refusals
 pub use Rattle.b64url_text.specs as b64url_text
 pub use Rattle.compact_form.specs as compact_form
 pub use Rattle.claim_tree.specs as claim_tree

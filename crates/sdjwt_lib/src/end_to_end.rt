@@ -3,8 +3,8 @@ ghost use Rattle.std.specs.Prelude.{◌≡◌, ◌≢◌, ◌≤◌, IfOk, IfErr
 ghost use Rattle.sd_outside.specs.Limits.{json_depth_max};
 ghost use Rattle.claim_tree.specs.Tree.{depth};
 ghost use Rattle.claim_tree.specs.View.{tree_of};
-ghost use Rattle.compact_form.specs.Lowest.{IsLowest, NoneApplies};
-ghost use Rattle.compact_form.specs.declared.fault.Fault.{Fault};
+ghost use Rattle.refusals.specs.Lowest.{IsLowest, NoneApplies};
+ghost use Rattle.refusals.specs.declared.fault.Fault.{Fault};
 ghost use Rattle.hmac_sign.specs.Algs.{alg_text};
 ghost use Rattle.hmac_sign.specs.Hmac.{hs256_key, IsGood};
 ghost use Rattle.verifier_core.specs.Verdict.{Fails};

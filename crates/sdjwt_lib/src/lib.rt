@@ -15,6 +15,7 @@
 //! | `selection_core` | to choose what is shown, and to ask the holder |
 //! | `hmac_sign`, `key_binding` | keys and signers, and what a caller says of signatures |
 //! | `compact_form`, `json_form` | the text of a token, and its limits |
+//! | `refusals` | conditions and refusals, and the lines that tell of them |
 //! | `jws_part`, `disclosure` | its header and payload, and its disclosures |
 //! | `claim_tree`, `marked_tree` | JSON, and JSON that tells what each disclosure shows |
 //! | `digest_index`, `digest_sites`, `rebuild_core` | digests and what stands behind them |
@@ -48,6 +49,7 @@ pub use jws_part;
 pub use key_binding;
 pub use marked_tree;
 pub use rebuild_core;
+pub use refusals;
 pub use sd_outside;
 pub use sdjwt_cli;
 pub use selection_core;

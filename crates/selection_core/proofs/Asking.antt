@@ -4,8 +4,8 @@ use Rattle.std.proofs.lemmas.Bool.Decides.{nat_tests}
 use Rattle.std.proofs.lemmas.List.{drop_more, map-append, length-append}
 use Rattle.std.proofs.Math.Seq.{take-append_seam}
 use Rattle.claim_tree.specs.Tree.{Text}
-use Rattle.claim_tree.specs.Lists.{In}
-use Rattle.claim_tree.proofs.Lists.{In-left, In-right, In-append, In-map, In-of_map}
+use Rattle.sd_outside.specs.Lists.{In}
+use Rattle.sd_outside.proofs.Lists.{In-left, In-right, In-append, In-map, In-of_map}
 use Rattle.marked_tree.specs.Marked as spec
 use Rattle.marked_tree.specs.Ways.{only}
 use Rattle.marked_tree.specs.Choice.{StandOnce}

@@ -1,7 +1,7 @@
 -- The rule of consent by the places that are never shown.
 use Rattle.std.proofs.Common.{◌≡◌, ◌↔◌, List, Bool, true, false, not, refl, sym, subst, ◌∙◌}
 use Rattle.std.specs.List.{list_any}
-use Rattle.claim_tree.proofs.Lists.{list_any-from, list_any-In}
+use Rattle.sd_outside.proofs.Lists.{list_any-from, list_any-In}
 use Rattle.marked_tree.specs.Paths.{Path}
 use Rattle.selection_core.specs.Consent.{Allows}
 use Rattle.selection_core.specs.AllowCalls.{IsDecided}

@@ -15,7 +15,7 @@ use Rattle.std.proofs.lemmas.List.Kept.{AllPairs-cons}
 use Rattle.std.proofs.lemmas.List.Sorted.{list_any-IsPermutation, sorted_far, ranks_by}
 use Rattle.claim_tree.specs.Path.{is_front}
 use Rattle.claim_tree.proofs.Counting.{before_or_at}
-use Rattle.claim_tree.proofs.Lists.{bytes_same, bytes_refl, compare_lt}
+use Rattle.sd_outside.proofs.Lists.{bytes_same, bytes_refl, compare_lt}
 use Rattle.claim_tree.proofs.MapPlaces.{less_clash}
 use Rattle.marked_tree.specs.Paths.{Path}
 use Rattle.marked_tree.specs.Rests.{step_cmp, path_order}

@@ -5,10 +5,10 @@ use Rattle.std.specs.List.{list_any}
 use Rattle.std.proofs.Math.Bool.{or-false, or_assoc}
 use Rattle.std.proofs.lemmas.List.{drop_more, drop_all}
 use Rattle.claim_tree.specs.Tree.{Tree}
-use Rattle.claim_tree.specs.Lists.{StandsAt, IsLeast}
+use Rattle.sd_outside.specs.Lists.{StandsAt, IsLeast}
 use Rattle.claim_tree.specs.Path.{tree_at}
 use Rattle.claim_tree.proofs.Counting.{before_or_at}
-use Rattle.claim_tree.proofs.Lists.{At-same, At-below, At-get_or}
+use Rattle.sd_outside.proofs.Lists.{At-same, At-below, At-get_or}
 use Rattle.marked_tree.specs.Choice.{is_on_way}
 use Rattle.marked_tree.specs.Marked.{Marked}
 use Rattle.marked_tree.specs.Numbers.{has}

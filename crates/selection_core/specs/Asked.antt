@@ -1,6 +1,6 @@
 -- For private functions: what was asked for on a walk, and what is refused so far.
 use Rattle.std.specs.Prelude.{◌≡◌, ℕ, ◌⊎◌, List, [], ◌∷◌, ◌++◌, map, ltb, Bool, true, false, Option, Some, None}
-use Rattle.claim_tree.specs.Lists.{In}
+use Rattle.sd_outside.specs.Lists.{In}
 use Rattle.marked_tree.specs.Paths.{Path, Spot}
 use Rattle.marked_tree.specs.Numbers.{has}
 use Rattle.selection_core.specs.Consent.{RuleAnswers, Allows}

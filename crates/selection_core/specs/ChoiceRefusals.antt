@@ -1,7 +1,7 @@
 -- Why nothing is chosen, and why what is chosen is not shown.
 use Rattle.std.specs.Prelude.{◌≡◌, ℕ, List, None}
 use Rattle.claim_tree.specs.Tree.{Tree}
-use Rattle.claim_tree.specs.Lists.{IsSuchAt}
+use Rattle.sd_outside.specs.Lists.{IsSuchAt}
 use Rattle.claim_tree.specs.Path.{tree_at}
 use Rattle.marked_tree.specs.Paths.{Path}
 

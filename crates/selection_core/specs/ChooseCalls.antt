@@ -1,7 +1,7 @@
 -- Not needed to believe the program's promises: why nothing is chosen.
 use Rattle.std.specs.Prelude.{List}
 use Rattle.claim_tree.specs.Tree.{Tree}
-use Rattle.claim_tree.specs.Lists.{IsLeast}
+use Rattle.sd_outside.specs.Lists.{IsLeast}
 use Rattle.marked_tree.specs.Paths.{Path}
 use Rattle.selection_core.specs.declared.errors.ChooseError.{ChooseError}
 use Rattle.selection_core.specs.declared.errors.ChooseError.TheVariants.{Memory, NoSuchPlace}

@@ -1,6 +1,6 @@
 -- The rule of consent that a list of places says which are never shown.
 use Rattle.std.specs.Prelude.{◌≡◌, ◌↔◌, List, Bool, true, IsTrue}
-use Rattle.claim_tree.specs.Lists.{In}
+use Rattle.sd_outside.specs.Lists.{In}
 use Rattle.claim_tree.specs.Path.{is_front}
 use Rattle.marked_tree.specs.Paths.{Path}
 use Rattle.selection_core.specs.Consent.{RuleAnswers}

@@ -1,6 +1,6 @@
 // The choice of the marks that lead to wanted places.
 ghost use Rattle.std.specs.Prelude.{◌≡◌, ◌||◌, ℕ, true, eqb, is_some, IfOk, IfErr, OnOk};
-ghost use Rattle.claim_tree.specs.Lists.{AtNone};
+ghost use Rattle.sd_outside.specs.Lists.{AtNone};
 ghost use Rattle.claim_tree.specs.Path.{tree_at};
 ghost use Rattle.marked_tree.specs.Choice.{is_on_way, IsUnmixed, IsLeastChoice};
 ghost use Rattle.marked_tree.specs.Paths.{chosen};

@@ -3,8 +3,8 @@ use Rattle.std.proofs.Common.{◌≡◌, ℕ, List, Option, Some, None, refl, ap
 use Rattle.std.specs.Option.{option_map}
 use Rattle.claim_tree.specs.Tree.{Text, Tree}
 use Rattle.compact_form.specs.Compact.{hashed}
-use Rattle.compact_form.specs.declared.condition.Condition.{Condition}
-use Rattle.compact_form.specs.declared.fault.Place.{Place}
+use Rattle.refusals.specs.declared.condition.Condition.{Condition}
+use Rattle.refusals.specs.declared.fault.Place.{Place}
 use Rattle.compact_form.specs.declared.parts.JwtParts.{JwtParts}
 use Rattle.compact_form.specs.declared.parts.Parts.{Parts}
 use Rattle.disclosure.specs.declared.digests.HashAlg.{HashAlg}

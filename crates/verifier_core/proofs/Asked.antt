@@ -2,21 +2,21 @@
 use Rattle.std.proofs.Common.{◌≡◌, ℕ, ◌<◌, ◌≤◌, ◌⊎◌, inl, inr, List, Some, refl, sym, ap, subst, ◌∙◌, arith}
 use Rattle.b64url_text.specs.NotBase64.{IsNotBase64}
 use Rattle.claim_tree.specs.Tree.{Text}
-use Rattle.compact_form.specs.Condition.{number_of}
-use Rattle.compact_form.specs.Faults.{failed_of}
-use Rattle.compact_form.specs.Lowest.{IsLowest, IsNoLater}
-use Rattle.compact_form.specs.Numbered.{one_condition}
-use Rattle.compact_form.specs.Passing.{Passes}
-use Rattle.compact_form.specs.declared.condition.Condition.{Condition}
-use Rattle.compact_form.specs.declared.fault.Fault.{Fault}
-use Rattle.compact_form.specs.declared.fault.Place.{Place}
-use Rattle.compact_form.specs.declared.fault.Place.TheVariants.{Nowhere}
+use Rattle.refusals.specs.Condition.{number_of}
+use Rattle.refusals.specs.Faults.{failed_of}
+use Rattle.refusals.specs.Lowest.{IsLowest, IsNoLater}
+use Rattle.refusals.specs.Numbered.{one_condition}
+use Rattle.refusals.specs.Passing.{Passes}
+use Rattle.refusals.specs.declared.condition.Condition.{Condition}
+use Rattle.refusals.specs.declared.fault.Fault.{Fault}
+use Rattle.refusals.specs.declared.fault.Place.{Place}
+use Rattle.refusals.specs.declared.fault.Place.TheVariants.{Nowhere}
 use Rattle.json_form.specs.Token.{IsToken}
 use Rattle.json_form.specs.declared.token.Token.{Token}
 use Rattle.json_form.proofs.Tokens as tokens
 use Rattle.jws_part.specs.Header.{IsHeaderUnreadable, IsHeaderCritical}
 use Rattle.key_binding.specs.declared.caller.SignatureAnswer.{SignatureAnswer}
-use Rattle.compact_form.proofs.Lowest.{below_or_at}
+use Rattle.refusals.proofs.Lowest.{below_or_at}
 use Rattle.verifier_core.specs.Asking.{caller_demands, issuer_answer, IsEarlyOrSigned, WasAsked, IsAskedNext, IsIssuerAsked, IsNeededAt}
 use Rattle.verifier_core.specs.Check.{IsSigned}
 use Rattle.marked_tree.specs.Marked.{strip}

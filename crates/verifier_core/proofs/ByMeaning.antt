@@ -3,15 +3,15 @@ use Rattle.std.proofs.Common.{◌≡◌, ◌↔◌, ℕ, ◌<◌, ◌≤◌, ◌
 use Rattle.std.specs.Option.{option_map}
 use Rattle.claim_tree.specs.Tree.{Text, Tree, Members}
 use Rattle.compact_form.specs.Compact.{hashed}
-use Rattle.compact_form.specs.Condition.{number_of}
-use Rattle.compact_form.specs.Faults.{fault_at, failed_of}
-use Rattle.compact_form.specs.Lowest.{IsLowest, IsNoLater, NoneFails}
-use Rattle.compact_form.specs.Passing.{Passes}
-use Rattle.compact_form.proofs.Lowest.{holds_too, lowest_at, refuse_unplaced}
-use Rattle.compact_form.specs.declared.condition.Condition.{Condition}
-use Rattle.compact_form.specs.declared.fault.Fault.{Fault}
-use Rattle.compact_form.specs.declared.fault.Place.{Place}
-use Rattle.compact_form.specs.declared.fault.Place.TheVariants.{Nowhere}
+use Rattle.refusals.specs.Condition.{number_of}
+use Rattle.refusals.specs.Faults.{fault_at, failed_of}
+use Rattle.refusals.specs.Lowest.{IsLowest, IsNoLater, NoneFails}
+use Rattle.refusals.specs.Passing.{Passes}
+use Rattle.refusals.proofs.Lowest.{holds_too, lowest_at, refuse_unplaced}
+use Rattle.refusals.specs.declared.condition.Condition.{Condition}
+use Rattle.refusals.specs.declared.fault.Fault.{Fault}
+use Rattle.refusals.specs.declared.fault.Place.{Place}
+use Rattle.refusals.specs.declared.fault.Place.TheVariants.{Nowhere}
 use Rattle.compact_form.specs.declared.parts.JwtParts.{JwtParts}
 use Rattle.json_form.specs.Token.{IsToken}
 use Rattle.json_form.specs.declared.token.Token.{Token}

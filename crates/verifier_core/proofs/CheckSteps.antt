@@ -2,11 +2,11 @@
 use Rattle.std.proofs.Common.{◌≡◌, ℕ, zero, suc, ◌<◌, ◌≤◌, List, [], ◌∷◌, take, Some, None, refl, sym, ap, subst, ◌∙◌, arith, rules}
 use Rattle.std.specs.List.{AllZip}
 use Rattle.claim_tree.specs.Tree.{Text, Tree, Members, leaf, null, flag, whole, text, array, object, depth}
-use Rattle.claim_tree.specs.Lists.{StandsAt, AtNone, IsLeast}
-use Rattle.claim_tree.proofs.Lists.{got_stands}
-use Rattle.compact_form.specs.declared.fault.Fault.{Fault}
-use Rattle.compact_form.specs.declared.fault.Place.{Place}
-use Rattle.compact_form.specs.declared.fault.Place.TheVariants.{At}
+use Rattle.sd_outside.specs.Lists.{StandsAt, AtNone, IsLeast}
+use Rattle.sd_outside.proofs.Lists.{got_stands}
+use Rattle.refusals.specs.declared.fault.Fault.{Fault}
+use Rattle.refusals.specs.declared.fault.Place.{Place}
+use Rattle.refusals.specs.declared.fault.Place.TheVariants.{At}
 use Rattle.json_form.specs.declared.token.Token.{Token}
 use Rattle.jws_part.specs.declared.header.Header.{Header}
 use Rattle.jws_part.specs.Part.{IsBody}
@@ -24,16 +24,16 @@ use Rattle.rebuild_core.specs.Answer.{IsPayload, IsProcessRefused}
 use Rattle.rebuild_core.specs.Conditions as opening
 use Rattle.rebuild_core.specs.Soundness as opening2
 use Rattle.rebuild_core.specs.declared.errors.ProcessError.{ProcessError}
-use Rattle.compact_form.specs.declared.condition.Condition.{Condition}
+use Rattle.refusals.specs.declared.condition.Condition.{Condition}
 use Rattle.verifier_core.specs.Verdict.{Rules, HasHeader, HasPayload, IsAlgRefusedBy, IsTypeRefused, IsUnknownBy, IsBadBy, IsNoDisclosure, Gives, HasContent, OfContent, TokenFails, IsChecked}
 use Rattle.verifier_core.specs.Check.{OnFault, IsUncounted, process_fault, IsSigned, IsSignedFault, bad_header, critical, bad_alg, bad_type, no_key, not_signed, IsPayloadFault, no_body, no_hash, IsUnreadAt}
-use Rattle.verifier_core.specs.declared.check.VerifyError.{VerifyError}
+use Rattle.verifier_core.specs.declared.token_checking.VerifyError.{VerifyError}
 use Rattle.verifier_core.proofs.TokenConditions.{finish, start}
-use Rattle.compact_form.specs.Lowest.{Unplaced, Numbered, IsLowest}
-use Rattle.compact_form.specs.Condition.{number_of}
-use Rattle.compact_form.specs.Faults.{placed, unplaced}
-use Rattle.compact_form.specs.Passing.{Passes}
-use Rattle.compact_form.proofs.Lowest.{holds_too, refuse_unplaced}
+use Rattle.refusals.specs.Lowest.{Unplaced, Numbered, IsLowest}
+use Rattle.refusals.specs.Condition.{number_of}
+use Rattle.refusals.specs.Faults.{placed, unplaced}
+use Rattle.refusals.specs.Passing.{Passes}
+use Rattle.refusals.proofs.Lowest.{holds_too, refuse_unplaced}
 use Rattle.verifier_core.proofs.LeastPlaces.{refuse_placed}
 
 -- ---- one header

@@ -10,8 +10,8 @@ use Rattle.compact_form.specs.declared.parts.Parts.{Parts}
 use Rattle.hmac_sign.specs.Algs.{alg_of_text}
 use Rattle.hmac_sign.specs.declared.alg.Alg.{Alg}
 use Rattle.key_binding.specs.Judged.{BindingRules}
-use Rattle.claim_tree.specs.Lists.{In}
-use Rattle.claim_tree.proofs.Lists.{bytes_same, bytes_refl, In-append, In-At, At-In}
+use Rattle.sd_outside.specs.Lists.{In}
+use Rattle.sd_outside.proofs.Lists.{bytes_same, bytes_refl, In-append, In-At, At-In}
 use Rattle.disclosure.specs.declared.digests.HashAlg.{HashAlg}
 use Rattle.disclosure.specs.declared.errors.DisclosureError.{DisclosureError}
 use Rattle.disclosure.specs.DisclosureRefusals.{IsDisclosureRefused}

@@ -1,18 +1,18 @@
 -- What each condition on the claims says of the payload.
 use Rattle.std.proofs.Common.{◌≡◌, ◌≢◌, ℕ, true, false, Bor, option_map, is_some, ◌<◌, List, Option, Some, None, codes, sym, ◌∙◌, subst, ◌+◌, ⊎_elim, arith, rules}
-use Rattle.compact_form.specs.declared.fault.Place.{Place}
+use Rattle.refusals.specs.declared.fault.Place.{Place}
 use Rattle.jws_part.specs.Times.{IsTimeUnreadable, IsExpired}
 use Rattle.claim_tree.specs.Tree.{Text, Tree, get}
 use Rattle.claim_tree.specs.View.{tree_of}
 use Rattle.claim_tree.specs.declared.tree.Tree as tree
-use Rattle.claim_tree.specs.Lists.{StandsAt}
+use Rattle.sd_outside.specs.Lists.{StandsAt}
 use Rattle.claim_tree.proofs.Counting.{before_or_at}
-use Rattle.claim_tree.proofs.Lists.{At-same}
-use Rattle.compact_form.specs.declared.condition.Condition.{Condition}
-use Rattle.compact_form.specs.Condition.{number_of}
+use Rattle.sd_outside.proofs.Lists.{At-same}
+use Rattle.refusals.specs.declared.condition.Condition.{Condition}
+use Rattle.refusals.specs.Condition.{number_of}
 use Rattle.verifier_core.specs.Verdict.{Demands, ClaimFails, IsIssuerRefused}
-use Rattle.compact_form.specs.Passing.{Passes}
-use Rattle.compact_form.proofs.Lowest.{holds_too}
+use Rattle.refusals.specs.Passing.{Passes}
+use Rattle.refusals.proofs.Lowest.{holds_too}
 
 -- a condition on the claims has a number from 22 to 26
 pub claim_numbers : (payload : Tree) (demands : Demands) (now : ℕ) (c : Condition) (place : Place) → ClaimFails payload demands now c place → (21 < number_of c) × (number_of c < 27)

@@ -5,8 +5,8 @@ use Rattle.std.proofs.lemmas.Slice.Zip.{AllZip-long}
 use Rattle.std.specs.List.{AllZip}
 use Rattle.claim_tree.specs.Tree.{Text, Tree, Members, depth}
 use Rattle.compact_form.specs.declared.parts.JwtParts.{JwtParts}
-use Rattle.compact_form.specs.Lowest.{IsLowest}
-use Rattle.compact_form.specs.Passing.{Passes}
+use Rattle.refusals.specs.Lowest.{IsLowest}
+use Rattle.refusals.specs.Passing.{Passes}
 use Rattle.digest_sites.specs.Given.{Given}
 use Rattle.disclosure.specs.Digest.{payload_hash}
 use Rattle.disclosure.specs.declared.digests.HashAlg.{HashAlg}
@@ -23,7 +23,7 @@ use Rattle.rebuild_core.specs.Payload.{without_alg}
 use Rattle.verifier_core.specs.Content.{Content, IsReadyToOpen}
 use Rattle.verifier_core.specs.Check.{OnFault, IsContent, IsRead, OfToken, IsCounted, IsCountedWithin, IsOpening, IsVerdictFor, IsUncounted, IsOpened, judged_of, IsSigned, IsSignedFault, IsPayloadFault, IsUnreadAt}
 use Rattle.verifier_core.specs.Verdict.{Rules, Demands, TokenFails, FailsFor, HasHash, IsBindingMissing, IsChecked, Gives}
-use Rattle.verifier_core.specs.declared.check.VerifyError.{VerifyError}
+use Rattle.verifier_core.specs.declared.token_checking.VerifyError.{VerifyError}
 use Rattle.verifier_core.proofs.CheckSteps.{on_fault, is_payload, signed_passes, signed_fault, payload_passes, payload_fault, given_passes, given_fault, content_fault, content_checked, passed_uncounted}
 use Rattle.verifier_core.proofs.Verdicts.{text_uncounted, token_lowest}
 

@@ -4,15 +4,15 @@ use Rattle.std.specs.Option.{option_map}
 use Rattle.b64url_text.specs.NotBase64.{IsNotBase64}
 use Rattle.claim_tree.specs.Tree.{Text, no_members}
 use Rattle.compact_form.specs.Compact.{hashed}
-use Rattle.compact_form.specs.Condition.{number_of}
-use Rattle.compact_form.specs.Faults.{failed_of}
-use Rattle.compact_form.specs.Lowest.{IsLowest, NoneFails}
-use Rattle.compact_form.specs.Passing.{Passes}
-use Rattle.compact_form.proofs.Lowest.{below_or_at}
-use Rattle.compact_form.specs.declared.condition.Condition.{Condition}
-use Rattle.compact_form.specs.declared.fault.Fault.{Fault}
-use Rattle.compact_form.specs.declared.fault.Place.{Place}
-use Rattle.compact_form.specs.declared.fault.Place.TheVariants.{Nowhere}
+use Rattle.refusals.specs.Condition.{number_of}
+use Rattle.refusals.specs.Faults.{failed_of}
+use Rattle.refusals.specs.Lowest.{IsLowest, NoneFails}
+use Rattle.refusals.specs.Passing.{Passes}
+use Rattle.refusals.proofs.Lowest.{below_or_at}
+use Rattle.refusals.specs.declared.condition.Condition.{Condition}
+use Rattle.refusals.specs.declared.fault.Fault.{Fault}
+use Rattle.refusals.specs.declared.fault.Place.{Place}
+use Rattle.refusals.specs.declared.fault.Place.TheVariants.{Nowhere}
 use Rattle.compact_form.specs.declared.parts.JwtParts.{JwtParts}
 use Rattle.disclosure.specs.declared.digests.HashAlg.{HashAlg}
 use Rattle.json_form.specs.Token.{IsToken}

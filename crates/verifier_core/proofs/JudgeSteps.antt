@@ -1,10 +1,10 @@
 -- Where a caller checks the signatures: from what is read of a token to what is answered.
 use Rattle.std.proofs.Common.{◌≡◌, ℕ, ◌<◌, List, subst, arith}
 use Rattle.claim_tree.specs.Tree.{Text, Tree}
-use Rattle.compact_form.proofs.Numbers.{fault_is}
-use Rattle.compact_form.specs.Faults.{failed_of}
-use Rattle.compact_form.specs.Lowest.{IsLowest}
-use Rattle.compact_form.specs.declared.fault.Fault.{Fault}
+use Rattle.refusals.proofs.Numbers.{fault_is}
+use Rattle.refusals.specs.Faults.{failed_of}
+use Rattle.refusals.specs.Lowest.{IsLowest}
+use Rattle.refusals.specs.declared.fault.Fault.{Fault}
 use Rattle.disclosure.specs.declared.digests.HashAlg.{HashAlg}
 use Rattle.json_form.specs.Token as file
 use Rattle.json_form.specs.Token.{IsToken}
@@ -16,7 +16,7 @@ use Rattle.verifier_core.specs.Content.{Content}
 use Rattle.verifier_core.specs.Verdict.{Demands, FailsFor, TokenFails, IsBindingMissing, HasHash, IsAcceptedFor}
 use Rattle.verifier_core.specs.Verdicts.{IsCheckedAs}
 use Rattle.verifier_core.specs.declared.asking.Answers.{Answers}
-use Rattle.verifier_core.specs.declared.check.VerifyError.{VerifyError}
+use Rattle.verifier_core.specs.declared.token_checking.VerifyError.{VerifyError}
 use Rattle.verifier_core.specs.declared.policy.Policy.{Policy}
 use Rattle.verifier_core.proofs.Asked.{file_numbers, signed_text, not_unsaid, said_good, needed_below, done_below}
 use Rattle.verifier_core.proofs.Contents.{open_refused, is_opened, read_uncounted}

@@ -1,14 +1,14 @@
 -- The least place of a condition that fails at numbers.
 use Rattle.std.proofs.Common.{ℕ, sym, subst}
-use Rattle.compact_form.specs.declared.fault.Place.{Place}
-use Rattle.compact_form.specs.declared.fault.Place.TheVariants.{At}
-use Rattle.compact_form.specs.declared.condition.Condition.{Condition}
-use Rattle.compact_form.specs.Condition.{number_of}
-use Rattle.compact_form.specs.Lowest.{Numbered, IsNoLater, IsLowest}
-use Rattle.compact_form.specs.Faults.{placed}
-use Rattle.compact_form.specs.Passing.{Passes}
-use Rattle.compact_form.proofs.Lowest.{lowest_at}
-use Rattle.claim_tree.specs.Lists.{IsLeast}
+use Rattle.refusals.specs.declared.fault.Place.{Place}
+use Rattle.refusals.specs.declared.fault.Place.TheVariants.{At}
+use Rattle.refusals.specs.declared.condition.Condition.{Condition}
+use Rattle.refusals.specs.Condition.{number_of}
+use Rattle.refusals.specs.Lowest.{Numbered, IsNoLater, IsLowest}
+use Rattle.refusals.specs.Faults.{placed}
+use Rattle.refusals.specs.Passing.{Passes}
+use Rattle.refusals.proofs.Lowest.{lowest_at}
+use Rattle.sd_outside.specs.Lists.{IsLeast}
 use Rattle.claim_tree.proofs.Counting.{not_below}
 
 -- a least number is the least place

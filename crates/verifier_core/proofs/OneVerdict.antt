@@ -1,8 +1,8 @@
 -- A text is accepted or refused, in one way.
 use Rattle.std.proofs.Common.{◌≡◌, ℕ, List, [], sym, ap, subst, ◌∙◌, arith, rules}
-use Rattle.compact_form.specs.declared.fault.Fault.{Fault}
-use Rattle.compact_form.specs.declared.fault.Place.{Place}
-use Rattle.compact_form.specs.declared.fault.Place.TheVariants.{Nowhere, At}
+use Rattle.refusals.specs.declared.fault.Fault.{Fault}
+use Rattle.refusals.specs.declared.fault.Place.{Place}
+use Rattle.refusals.specs.declared.fault.Place.TheVariants.{Nowhere, At}
 use Rattle.compact_form.specs.declared.parts.Parts.{Parts}
 use Rattle.compact_form.specs.Compact.{hashed}
 use Rattle.compact_form.specs.Trim.{trimmed}
@@ -15,13 +15,13 @@ use Rattle.json_form.specs.Token.{IsMisformed}
 use Rattle.json_form.proofs.Tokens as tokens
 use Rattle.claim_tree.specs.Tree.{Tree}
 use Rattle.marked_tree.specs.Marked.{Marked, strip}
-use Rattle.compact_form.specs.declared.condition.Condition.{Condition}
+use Rattle.refusals.specs.declared.condition.Condition.{Condition}
 use Rattle.verifier_core.specs.Verdict.{Rules, Demands, TokenFails, ClaimFails, MissingFails, HolderFails, FileFails, FailsFor, of_file, of_missing, of_token, of_claims, of_holder, Opens, IsAcceptedFor}
-use Rattle.compact_form.specs.Lowest.{IsNoLater, IsLowest}
-use Rattle.compact_form.specs.Numbered.{one_condition}
-use Rattle.compact_form.proofs.Numbers.{same_fault}
-use Rattle.compact_form.proofs.Lowest.{one_failed, one_number}
-use Rattle.compact_form.specs.Faults.{failed_of}
+use Rattle.refusals.specs.Lowest.{IsNoLater, IsLowest}
+use Rattle.refusals.specs.Numbered.{one_condition}
+use Rattle.refusals.proofs.Numbers.{same_fault}
+use Rattle.refusals.proofs.Lowest.{one_failed, one_number}
+use Rattle.refusals.specs.Faults.{failed_of}
 use Rattle.verifier_core.proofs.Verdicts.{one_opening}
 
 -- ---- the place of a condition

@@ -1,8 +1,8 @@
 -- What each version of a policy file says of issuers and audiences.
 use Rattle.std.proofs.Common.{◌≡◌, ⊎_elim, ℕ, ◌+◌, ◌<◌, ◌≤◌, pos, List, [], ◌∷◌, length, Option, Some, None, refl, sym, ap, subst, ◌∙◌}
 use Rattle.claim_tree.specs.Tree.{Text, leaf, whole, array, Tree, Elements}
-use Rattle.claim_tree.specs.Lists.{StandsAt}
-use Rattle.claim_tree.proofs.Lists.{At-same}
+use Rattle.sd_outside.specs.Lists.{StandsAt}
+use Rattle.sd_outside.proofs.Lists.{At-same}
 use Rattle.claim_tree.proofs.Counting.{before_or_at}
 use Rattle.sd_outside.specs.Limits.{binding_text_max}
 use Rattle.claim_tree.specs.FileForms.{IsText, IsTexts, text_elements, Says}

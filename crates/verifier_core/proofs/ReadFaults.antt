@@ -1,9 +1,9 @@
 -- What is refused before a token is opened has a number of at most 13.
 use Rattle.std.proofs.Common.{◌≡◌, List, sym, subst, arith}
 use Rattle.claim_tree.specs.Tree.{Text, Members}
-use Rattle.compact_form.specs.Faults.{placed}
-use Rattle.compact_form.specs.declared.condition.Condition.{Condition}
-use Rattle.compact_form.specs.declared.fault.Fault.{Fault}
+use Rattle.refusals.specs.Faults.{placed}
+use Rattle.refusals.specs.declared.condition.Condition.{Condition}
+use Rattle.refusals.specs.declared.fault.Fault.{Fault}
 use Rattle.compact_form.specs.declared.parts.JwtParts.{JwtParts}
 use Rattle.disclosure.specs.declared.digests.HashAlg.{HashAlg}
 use Rattle.verifier_core.specs.Check.{IsUnopened, IsSignedFault, bad_header, critical, bad_alg, bad_type, no_key, not_signed, IsPayloadFault, no_body, no_hash, IsUnreadAt}

@@ -1,10 +1,10 @@
 -- Two serializations of one token are judged alike.
 use Rattle.std.proofs.Common.{◌≡◌, ℕ, false, List, refl, subst}
-use Rattle.compact_form.specs.declared.condition.Condition.{Condition}
-use Rattle.compact_form.specs.Faults.{fault_at, unplaced, failed_of}
-use Rattle.compact_form.specs.declared.fault.Fault.{Fault}
-use Rattle.compact_form.specs.declared.fault.Place.{Place}
-use Rattle.compact_form.specs.Lowest.{IsLowest}
+use Rattle.refusals.specs.declared.condition.Condition.{Condition}
+use Rattle.refusals.specs.Faults.{fault_at, unplaced, failed_of}
+use Rattle.refusals.specs.declared.fault.Fault.{Fault}
+use Rattle.refusals.specs.declared.fault.Place.{Place}
+use Rattle.refusals.specs.Lowest.{IsLowest}
 use Rattle.compact_form.specs.Trim.{trimmed, is_too_long}
 use Rattle.json_form.specs.declared.token.Token.{Token}
 use Rattle.json_form.specs.Token.{IsToken, Spells, IsTooMuch, too_much}

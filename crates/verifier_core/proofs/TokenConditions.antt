@@ -1,12 +1,12 @@
 -- The conditions on a token, passed one after another.
 use Rattle.std.proofs.Common.{◌<◌, arith, rules}
-use Rattle.compact_form.specs.declared.fault.Place.{Place}
+use Rattle.refusals.specs.declared.fault.Place.{Place}
 use Rattle.json_form.specs.declared.token.Token.{Token}
-use Rattle.compact_form.specs.declared.condition.Condition.{Condition}
-use Rattle.compact_form.specs.Condition.{number_of}
+use Rattle.refusals.specs.declared.condition.Condition.{Condition}
+use Rattle.refusals.specs.Condition.{number_of}
 use Rattle.verifier_core.specs.Verdict.{Rules, TokenFails}
-use Rattle.compact_form.specs.Lowest.{NoneFails}
-use Rattle.compact_form.specs.Passing.{Passes}
+use Rattle.refusals.specs.Lowest.{NoneFails}
+use Rattle.refusals.specs.Passing.{Passes}
 
 -- ---- those of a token
 

@@ -2,10 +2,10 @@
 use Rattle.std.proofs.Common.{◌≡◌, ℕ, ◌<◌, ◌≤◌, ◌-◌, ◌^◌, ◌⊎◌, inl, inr, List, length, Some, refl, sym, ap, ap₂, subst, ◌∙◌, arith}
 use Rattle.claim_tree.specs.Tree.{Tree}
 use Rattle.sd_outside.specs.Limits.{count_max}
-use Rattle.compact_form.specs.declared.fault.Fault.{Fault}
-use Rattle.compact_form.specs.Faults.{fault_at, unplaced, failed_of}
-use Rattle.compact_form.specs.declared.fault.Place.{Place}
-use Rattle.compact_form.specs.declared.fault.Place.TheVariants.{Nowhere, At, Json}
+use Rattle.refusals.specs.declared.fault.Fault.{Fault}
+use Rattle.refusals.specs.Faults.{fault_at, unplaced, failed_of}
+use Rattle.refusals.specs.declared.fault.Place.{Place}
+use Rattle.refusals.specs.declared.fault.Place.TheVariants.{Nowhere, At, Json}
 use Rattle.compact_form.specs.declared.parts.JwtParts.{JwtParts}
 use Rattle.compact_form.specs.declared.parts.Parts.{Parts}
 use Rattle.compact_form.specs.Compact.{hashed}
@@ -22,16 +22,16 @@ use Rattle.key_binding.specs.BindingConditions.{BindingFails}
 use Rattle.key_binding.proofs.BindingSteps.{binding_numbers}
 use Rattle.marked_tree.specs.Marked.{Marked, strip}
 use Rattle.rebuild_core.specs.Opening.{processed}
-use Rattle.compact_form.specs.declared.condition.Condition.{Condition}
-use Rattle.compact_form.specs.Condition.{number_of}
+use Rattle.refusals.specs.declared.condition.Condition.{Condition}
+use Rattle.refusals.specs.Condition.{number_of}
 use Rattle.verifier_core.specs.Verdict.{Demands, TokenFails, ClaimFails, MissingFails, HolderFails, IsBindingMissing, HasHash, FailsFor, of_file, of_missing, of_token, of_claims, of_holder, Opens, IsChecked, IsAcceptedFor}
 use Rattle.verifier_core.specs.Check.{IsUncounted, ShownFails}
-use Rattle.compact_form.specs.Lowest.{IsNoLater, IsLowest, NoneFails}
-use Rattle.compact_form.proofs.Numbers.{fault_is}
+use Rattle.refusals.specs.Lowest.{IsNoLater, IsLowest, NoneFails}
+use Rattle.refusals.proofs.Numbers.{fault_is}
 use Rattle.verifier_core.proofs.TokenConditions.{token_numbers}
 use Rattle.verifier_core.proofs.ClaimSteps.{claim_numbers}
 use Rattle.verifier_core.proofs.CheckSteps.{one_content}
-use Rattle.compact_form.proofs.Lowest.{below_or_at}
+use Rattle.refusals.proofs.Lowest.{below_or_at}
 
 pub few : (content : List ℕ) (token : Token) → IsToken content token → length token.parts.disclosures < 2 ^ 32 - 1
 few content token is = go (either (length token.parts.disclosures))

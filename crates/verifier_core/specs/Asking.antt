@@ -4,13 +4,13 @@ use Rattle.std.specs.Prelude.{◌≡◌, ℕ, ◌≤◌, ◌⊎◌, ◌++◌, Li
 use Rattle.b64url_text.specs.Base64url.{Decodes}
 use Rattle.claim_tree.specs.Tree.{Text, Tree, Members, no_members}
 use Rattle.claim_tree.specs.View.{tree_of}
-use Rattle.compact_form.specs.Faults.{fault_number}
-use Rattle.compact_form.specs.Lowest.{IsLowest}
-use Rattle.compact_form.specs.declared.condition.Condition.{Condition}
-use Rattle.compact_form.specs.declared.fault.Fault.{Fault}
-use Rattle.compact_form.specs.declared.fault.Place.{Place}
+use Rattle.refusals.specs.Faults.{fault_number}
+use Rattle.refusals.specs.Lowest.{IsLowest}
+use Rattle.refusals.specs.declared.condition.Condition.{Condition}
+use Rattle.refusals.specs.declared.fault.Fault.{Fault}
+use Rattle.refusals.specs.declared.fault.Place.{Place}
 use Rattle.compact_form.specs.declared.parts.JwtParts.{JwtParts}
-use Rattle.compact_form.specs.Passing.{Passes}
+use Rattle.refusals.specs.Passing.{Passes}
 use Rattle.json_form.specs.declared.token.Token.{Token}
 use Rattle.json_form.specs.Token.{IsToken}
 use Rattle.jws_part.specs.Header.{IsHeader}

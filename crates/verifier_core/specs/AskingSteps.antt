@@ -1,7 +1,7 @@
 -- For private functions: what is judged, of what is borrowed.
 use Rattle.std.specs.Prelude.{Result}
-use Rattle.compact_form.specs.declared.condition.Condition.{Condition}
-use Rattle.compact_form.specs.declared.fault.Place.{Place}
+use Rattle.refusals.specs.declared.condition.Condition.{Condition}
+use Rattle.refusals.specs.declared.fault.Place.{Place}
 use Rattle.verifier_core.specs.Verdict.{Demands, FailsFor}
 use Rattle.verifier_core.specs.Asking.{caller_demands, WasAsked, IsAskedNext, IsJudged}
 use Rattle.verifier_core.specs.declared.asking.Case.{Case}

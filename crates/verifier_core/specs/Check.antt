@@ -4,8 +4,8 @@ use Rattle.std.specs.Prelude.{◌≡◌, ◌≢◌, ◌≤◌, ℕ, Bool, true, 
 use Rattle.std.specs.List.{AllZip}
 use Rattle.sd_outside.specs.Limits.{json_depth_max}
 use Rattle.claim_tree.specs.Tree.{Text, Tree, Members, depth}
-use Rattle.compact_form.specs.declared.fault.Fault.{Fault}
-use Rattle.compact_form.specs.declared.fault.Place.{Place}
+use Rattle.refusals.specs.declared.fault.Fault.{Fault}
+use Rattle.refusals.specs.declared.fault.Place.{Place}
 use Rattle.compact_form.specs.declared.parts.JwtParts.{JwtParts}
 use Rattle.compact_form.specs.declared.parts.Parts.{Parts}
 use Rattle.jws_part.specs.declared.header.Header.{Header}
@@ -22,14 +22,14 @@ use Rattle.marked_tree.specs.Marked.{Marked}
 use Rattle.rebuild_core.specs.LookUps.{look_ups, counted, RoseWithin}
 use Rattle.rebuild_core.specs.Payload.{without_alg}
 use Rattle.rebuild_core.specs.declared.errors.ProcessError.{ProcessError}
-use Rattle.compact_form.specs.declared.condition.Condition.{Condition}
-use Rattle.compact_form.specs.Condition.{number_of}
-use Rattle.compact_form.specs.Faults.{fault_number, unplaced, placed}
-use Rattle.compact_form.specs.Lowest.{IsLowest}
-use Rattle.compact_form.specs.Passing.{Passes}
+use Rattle.refusals.specs.declared.condition.Condition.{Condition}
+use Rattle.refusals.specs.Condition.{number_of}
+use Rattle.refusals.specs.Faults.{fault_number, unplaced, placed}
+use Rattle.refusals.specs.Lowest.{IsLowest}
+use Rattle.refusals.specs.Passing.{Passes}
 use Rattle.verifier_core.specs.Content.{Content}
 use Rattle.verifier_core.specs.Verdict.{Rules, Demands, demands_of, TokenFails, FailsFor, HasContent, HasHash, IsChecked, IsBindingMissing, ClaimFails, HolderFails, IsAlgRefusedBy, IsTypeRefused, IsUnknownBy, IsBadBy, IsNoDisclosure, Gives}
-use Rattle.verifier_core.specs.declared.check.VerifyError.{VerifyError}
+use Rattle.verifier_core.specs.declared.token_checking.VerifyError.{VerifyError}
 use Rattle.verifier_core.specs.declared.policy.Policy.{Policy}
 
 -- the fault that is answered, where memory did not end

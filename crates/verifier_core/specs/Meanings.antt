@@ -3,11 +3,11 @@
 use Rattle.std.specs.Prelude.{◌≡◌, ◌↔◌, ℕ, List, Some}
 use Rattle.b64url_text.specs.Base64url.{Decodes}
 use Rattle.claim_tree.specs.Tree.{Text, Tree, Members}
-use Rattle.compact_form.specs.Faults.{fault_at, failed_of}
-use Rattle.compact_form.specs.Lowest.{Unplaced, IsLowest, NoneFails}
-use Rattle.compact_form.specs.declared.condition.Condition.{Condition}
-use Rattle.compact_form.specs.declared.fault.Fault.{Fault}
-use Rattle.compact_form.specs.declared.fault.Place.{Place}
+use Rattle.refusals.specs.Faults.{fault_at, failed_of}
+use Rattle.refusals.specs.Lowest.{Unplaced, IsLowest, NoneFails}
+use Rattle.refusals.specs.declared.condition.Condition.{Condition}
+use Rattle.refusals.specs.declared.fault.Fault.{Fault}
+use Rattle.refusals.specs.declared.fault.Place.{Place}
 use Rattle.compact_form.specs.declared.parts.JwtParts.{JwtParts}
 use Rattle.hmac_sign.specs.Signatures.{Meaning}
 use Rattle.json_form.specs.Token.{IsToken}

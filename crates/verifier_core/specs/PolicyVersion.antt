@@ -3,7 +3,7 @@
 use Rattle.std.specs.Prelude.{◌≡◌, ◌≤◌, pos, List, [], ◌∷◌, length}
 use Rattle.sd_outside.specs.Limits.{audiences_max, binding_text_max}
 use Rattle.claim_tree.specs.Tree.{Text, whole, leaf, Tree}
-use Rattle.claim_tree.specs.Lists.{In}
+use Rattle.sd_outside.specs.Lists.{In}
 use Rattle.claim_tree.specs.FileForms.{IsText, IsTexts}
 use Rattle.key_binding.specs.ShortText.{IsShortText}
 use Rattle.verifier_core.specs.declared.policy_version.PolicyVersion.{PolicyVersion}

@@ -3,9 +3,9 @@
 use Rattle.std.specs.Prelude.{◌≡◌, ◌≢◌, ℕ, ◌⊎◌, List, Option, Some, None, codes, option_and_then, option_map}
 use Rattle.std.specs.List.{AllZip}
 use Rattle.claim_tree.specs.Tree.{Text, Tree, leaf, text, get}
-use Rattle.claim_tree.specs.Lists.{StandsAt, IsSuchAt, In}
-use Rattle.compact_form.specs.declared.fault.Place.{Place}
-use Rattle.compact_form.specs.Faults.{fault_at}
+use Rattle.sd_outside.specs.Lists.{StandsAt, IsSuchAt, In}
+use Rattle.refusals.specs.declared.fault.Place.{Place}
+use Rattle.refusals.specs.Faults.{fault_at}
 use Rattle.compact_form.specs.declared.parts.JwtParts.{JwtParts}
 use Rattle.compact_form.specs.declared.parts.Parts.{Parts}
 use Rattle.compact_form.specs.Compact.{hashed}
@@ -28,8 +28,8 @@ use Rattle.marked_tree.specs.Marked.{Marked, strip}
 use Rattle.rebuild_core.specs.Payload.{without_alg}
 use Rattle.rebuild_core.specs.Opening.{processed}
 use Rattle.rebuild_core.specs.Conditions as opening
-use Rattle.compact_form.specs.declared.condition.Condition.{Condition}
-use Rattle.compact_form.specs.Lowest.{Unplaced, Numbered, NoneFails}
+use Rattle.refusals.specs.declared.condition.Condition.{Condition}
+use Rattle.refusals.specs.Lowest.{Unplaced, Numbered, NoneFails}
 use Rattle.key_binding.specs.Caller.{Caller, IsAlgUntaken, IsUnknownTo, IsBadTo}
 use Rattle.key_binding.specs.Judged.{judged, BindingRules, binding_rules}
 use Rattle.key_binding.specs.BindingConditions.{BindingFails}

@@ -4,10 +4,10 @@ use Rattle.digest_sites.specs.Given.{Given}
 use Rattle.json_form.specs.Token.{IsToken}
 use Rattle.rebuild_core.specs.Laws.{IsWithinNodes}
 use Rattle.claim_tree.specs.Tree.{Tree}
-use Rattle.compact_form.specs.declared.fault.Fault.{Fault}
+use Rattle.refusals.specs.declared.fault.Fault.{Fault}
 use Rattle.json_form.specs.declared.token.Token.{Token}
 use Rattle.marked_tree.specs.Marked.{Marked, strip}
-use Rattle.compact_form.specs.Lowest.{IsLowest}
+use Rattle.refusals.specs.Lowest.{IsLowest}
 use Rattle.verifier_core.specs.declared.policy.Policy.{Policy}
 use Rattle.verifier_core.specs.Verdict.{Fails, HasContent, IsAccepted, IsChecked, Rules}
 

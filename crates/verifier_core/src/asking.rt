@@ -2,7 +2,7 @@
 ghost use Rattle.std.specs.Prelude.{◌≡◌, ◌↔◌, ◌++◌, Some, codes, IsTrue, IfOk, OnOk, IfSome, IfNone, IsErrOf, option_map};
 ghost use Rattle.b64url_text.specs.NotBase64.{IsNotBase64};
 ghost use Rattle.claim_tree.specs.View.{tree_of};
-ghost use Rattle.compact_form.specs.Lowest.{IsLowest};
+ghost use Rattle.refusals.specs.Lowest.{IsLowest};
 ghost use Rattle.compact_form.specs.Views.{jwt_of};
 ghost use Rattle.json_form.specs.Token.{IsToken};
 ghost use Rattle.jws_part.specs.Header.{IsHeaderUnreadable, IsHeaderCritical};
@@ -13,7 +13,7 @@ ghost use Rattle.verifier_core.specs.Asking.{caller_demands as demands_of_caller
 ghost use Rattle.verifier_core.specs.AskingSteps.{demands_in, fails_in, WasAskedIn, IsAskedNextIn, IsJudgedIn};
 ghost use Rattle.claim_tree.specs.Tree.{no_members};
 ghost use Rattle.verifier_core.specs.declared.asking.JudgeError as unjudged;
-ghost use Rattle.verifier_core.specs.declared.check.VerifyError as failed;
+ghost use Rattle.verifier_core.specs.declared.token_checking.VerifyError as failed;
 
 use crate::check_shown::{Shown, check_shown};
 use crate::rules::Demands;
@@ -21,11 +21,12 @@ use crate::verdict::{read_content, read_text};
 use crate::{Issuers, Policy, Rules, VerifyError};
 use b64url_text::{DecodeError, decode};
 use claim_tree::{Tree, TreeMap};
-use compact_form::{Condition, Fault, JwtView};
+use compact_form::JwtView;
 use digest_index::Steps;
 use json_form::TokenText;
 use jws_part::{Header, HeaderError, read_header};
 use key_binding::{BindingRules, Caller, Holders, SignatureAnswer};
+use refusals::{Condition, Fault};
 use sd_outside::{ByteBox, NoMemory, TextBox, TextList};
 use std::alloc::Global;
 

@@ -1,7 +1,7 @@
 // What is asked of the key binding token.
 ghost use Rattle.std.specs.Prelude.{◌≡◌, ◌↔◌, ℕ, List, IsTrue, OnOk, IfErr};
 ghost use Rattle.claim_tree.specs.View.{tree_of};
-ghost use Rattle.compact_form.specs.Lowest.{IsLowest, NoneFails};
+ghost use Rattle.refusals.specs.Lowest.{IsLowest, NoneFails};
 ghost use Rattle.key_binding.specs.JudgedSteps.{judged_of};
 ghost use Rattle.key_binding.specs.BindingConditions.{BindingFails};
 ghost use Rattle.key_binding.specs.BindingCalls.{IsLowestBinding, OnBoundFails};

@@ -7,15 +7,16 @@ ghost use Rattle.key_binding.specs.CallerSeen.{Tells};
 ghost use Rattle.verifier_core.specs.Verdict.{of_keys, key_for as key_for_of, IsAlgRefused, IsAlgRefusedBy, IsTypeRefused, IsUnknownBy, IsBadBy};
 ghost use Rattle.verifier_core.specs.Seen.{issuers_of};
 ghost use Rattle.verifier_core.specs.Check.{OnFault, TestTells, IsSigned, IsSignedFault};
-ghost use Rattle.compact_form.specs.Faults.{unplaced};
-ghost use Rattle.verifier_core.specs.declared.check.VerifyError as error;
+ghost use Rattle.refusals.specs.Faults.{unplaced};
+ghost use Rattle.verifier_core.specs.declared.token_checking.VerifyError as error;
 
 use crate::{Issuers, Rules, VerifyError};
 use claim_tree::{JsonReader, TreeMap};
-use compact_form::{Condition, JwtView};
+use compact_form::JwtView;
 use hmac_sign::{HsKey, KeySet, alg_named};
 use jws_part::{Header, HeaderError, read_header_with};
-use key_binding::{SignatureAnswer, is_among};
+use key_binding::SignatureAnswer;
+use refusals::Condition;
 use sd_outside::{NoMemory, TextBox, TextList};
 use std::alloc::Global;
 
@@ -44,7 +45,7 @@ fn is_name_refused(algs: &TextList, alg: &str) -> bool
     let Some(_) = alg_named(alg) else {
         return true;
     };
-    !is_among(algs, alg)
+    !algs.contains(alg)
 }
 
 // Whether signatures of this algorithm are not taken.

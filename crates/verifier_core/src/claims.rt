@@ -1,16 +1,15 @@
 // What is asked of the claims of the processed payload.
 ghost use Rattle.std.specs.Prelude.{◌≡◌, ◌≢◌, ◌↔◌, ℕ, Some, None, codes, IsTrue, OnOk, IfErr, IfSome, IfNone};
 ghost use Rattle.claim_tree.specs.Tree.{Text, get as get_of};
-ghost use Rattle.claim_tree.specs.Lists.{StandsAt, IsLeast};
+ghost use Rattle.sd_outside.specs.Lists.{StandsAt, IsLeast};
 ghost use Rattle.claim_tree.specs.View.{tree_of};
 ghost use Rattle.verifier_core.specs.Verdict.{ClaimFails, NamesIssuer, IsIssuerRefused};
-ghost use Rattle.compact_form.specs.Lowest.{IsLowest, NoneFails};
+ghost use Rattle.refusals.specs.Lowest.{IsLowest, NoneFails};
 
 use crate::rules::Demands;
 use claim_tree::{Tree, get};
-use compact_form::{Condition, Fault, Place};
 use jws_part::{is_expired, is_not_yet, is_time_unreadable};
-use key_binding::is_among;
+use refusals::{Condition, Fault, Place};
 use sd_outside::TextList;
 
 // Whether the payload names one of these issuers.
@@ -18,7 +17,7 @@ fn has_issuer(payload: &Tree, issuers: &TextList) -> bool
     ensures { IsTrue result ↔ NamesIssuer issuers.now (get_of (tree_of payload.now) (codes "iss")) }
 {
     match get(payload, "iss") {
-        Some(Tree::Text(named)) => is_among(issuers, named.as_str()),
+        Some(Tree::Text(named)) => issuers.contains(named.as_str()),
         _ => false,
     }
 }

@@ -4,7 +4,7 @@ ghost use Rattle.std.specs.Prelude.{◌≡◌, ◌≤◌, ◌<◌, ◌-◌, ◌^
 ghost use Rattle.sd_outside.specs.Limits.{json_depth_max};
 ghost use Rattle.claim_tree.specs.Tree.{depth};
 ghost use Rattle.claim_tree.specs.View.{tree_of};
-ghost use Rattle.compact_form.specs.Lowest.{IsLowest};
+ghost use Rattle.refusals.specs.Lowest.{IsLowest};
 ghost use Rattle.marked_tree.specs.Marked.{strip as strip_of};
 ghost use Rattle.marked_tree.specs.View.{marked_of};
 ghost use Rattle.verifier_core.specs.Verdict.{TokenFails, IsChecked, HasHash};
@@ -12,19 +12,19 @@ ghost use Rattle.verifier_core.specs.Asking.{IsEarlyOrSigned};
 ghost use Rattle.verifier_core.specs.Verdicts.{IsCheckedAs};
 ghost use Rattle.verifier_core.specs.Check.{OnFault, IsUnopened, IsContent, OfToken, IsOpening, IsSigned, process_fault, judged_of};
 
-use crate::check::fails_at;
-use crate::check_given::read_given;
-use crate::check_payload::read_payload;
 use crate::check_signed::{check_signed, fails};
+use crate::given_reading::read_given;
+use crate::payload_reading::read_payload;
+use crate::token_checking::fails_at;
 use crate::{Rules, VerifyError};
 use claim_tree::Tree;
-use compact_form::Condition;
 use digest_index::{Steps, seed_of};
 use digest_sites::GivenList;
 use disclosure::{DisclosureReader, HashAlg};
 use json_form::TokenView;
 use marked_tree::Marked;
 use rebuild_core::{ProcessError, process_payload, process_seeded};
+use refusals::Condition;
 use std::alloc::Global;
 use std::marker::Model;
 

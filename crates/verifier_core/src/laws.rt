@@ -5,7 +5,7 @@ ghost use Rattle.claim_tree.specs.declared.file_fault.FileFault.{FileFault};
 ghost use Rattle.claim_tree.specs.JsonText.{json_text};
 ghost use Rattle.claim_tree.specs.Tree.{Tree, no_members};
 ghost use Rattle.compact_form.specs.Compact.{compact};
-ghost use Rattle.compact_form.specs.declared.fault.Fault.{Fault};
+ghost use Rattle.refusals.specs.declared.fault.Fault.{Fault};
 ghost use Rattle.compact_form.specs.Trim.{trimmed, is_too_long};
 ghost use Rattle.json_form.specs.declared.token.Token.{Token};
 ghost use Rattle.json_form.specs.Token.{IsToken, Spells};
@@ -16,7 +16,7 @@ ghost use Rattle.verifier_core.specs.VersionTwo.{SaysInTwo};
 ghost use Rattle.verifier_core.specs.Meanings.{meanings, AcceptedByMeaning, RefusedByMeaning, OneVerdictByMeaning, AnsweredByMeaning};
 ghost use Rattle.verifier_core.specs.Verdict.{Fails, IsAccepted};
 ghost use Rattle.verifier_core.specs.Verdicts.{HaveOneVerdict};
-ghost use Rattle.compact_form.specs.Lowest.{IsLowest};
+ghost use Rattle.refusals.specs.Lowest.{IsLowest};
 ghost use Rattle.verifier_core.specs.declared.policy.Policy.{Policy};
 
 use hmac_sign::Checker;

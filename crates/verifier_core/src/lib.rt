@@ -11,25 +11,25 @@
 
 mod asking;
 mod binding_file;
-mod check;
-mod check_given;
-mod check_payload;
 mod check_shown;
 mod check_signed;
 mod claims;
 mod content;
+mod given_reading;
 pub mod laws;
+mod payload_reading;
 mod policy;
 mod policy_version;
 mod rules;
+mod token_checking;
 mod verdict;
 
 pub use asking::{Answers, JudgeError, Judgement, Question, judge, question_on};
 pub use binding_file::AGE_MAX;
-pub use check::{Checked, VerifyError, check_token, check_view};
-pub use compact_form::fault_line;
 pub use content::Content;
-pub use policy::{Policy, SKEW_MAX, keys_member, read_policy};
+pub use policy::{Policy, SKEW_MAX, read_policy};
 pub use policy_version::{AUDIENCES_MAX, PolicyVersion};
+pub use refusals::fault_line;
 pub use rules::{Issuers, Rules};
+pub use token_checking::{Checked, VerifyError, check_token, check_view};
 pub use verdict::{Accepted, verify, verify_payload};

@@ -1,10 +1,9 @@
 // The policy of a verifier, and the file that says it.
 ghost use Rattle.std.specs.Prelude.{◌≡◌, [], ◌∷◌, codes, IfOk, IfErr, option_map};
 ghost use Rattle.sd_outside.specs.Limits.{skew_max};
-ghost use Rattle.claim_tree.specs.FileForms.{IsTexts, IsWholeUpTo, Says, SaysOr, required, optional, found};
+ghost use Rattle.claim_tree.specs.FileForms.{IsTexts, IsWholeUpTo, SaysOr, optional, found};
 ghost use Rattle.claim_tree.specs.FileRefusals.{IsMemberRefused};
 ghost use Rattle.claim_tree.specs.declared.file_fault.Field.TheVariants.{Algs, Require, Skew};
-ghost use Rattle.hmac_sign.specs.Keys.{IsKeySet};
 ghost use Rattle.verifier_core.specs.PolicyFile.{IsPolicyFile, IsPolicyFileRefused};
 ghost use Rattle.key_binding.specs.Judged.{binding_rules};
 ghost use Rattle.key_binding.specs.JudgedSteps.{rules_seen};
@@ -18,7 +17,7 @@ use claim_tree::{
     Field, FileFault, TreeMap, read_members, text_list_member, text_member, whole_member,
 };
 use compact_form::FILE_MAX;
-use hmac_sign::{KeySet, KeySetError};
+use hmac_sign::{KeySet, keys_member};
 use key_binding::{BindingPolicy, BindingRules};
 use sd_outside::{TextBox, TextList};
 use std::alloc::Global;
@@ -86,23 +85,6 @@ impl Policy {
             Some(binding) => Some(binding.rules()),
             None => None,
         }
-    }
-}
-
-/// The key set of a member that a file must have.
-pub fn keys_member(alloc: Global, members: &TreeMap, field: Field) -> Result<KeySet, FileFault>
-    ensures ok { IfOk result (Says IsKeySet (found members.now field)) }
-    ensures refused { IfErr result (IsMemberRefused (required field IsKeySet) members.now) }
-{
-    let Some(tree) = members.get(field.word()) else {
-        return Err(FileFault::Missing(field));
-    };
-    match KeySet::read(alloc, tree) {
-        Ok(keys) => Ok(keys),
-        Err(error) => match error {
-            KeySetError::Memory => Err(FileFault::Memory),
-            _ => Err(FileFault::Wrong(field)),
-        },
     }
 }
 

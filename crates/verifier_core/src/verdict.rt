@@ -7,7 +7,7 @@ ghost use Rattle.json_form.specs.Token.{IsToken, IsTextRefused};
 ghost use Rattle.verifier_core.specs.Verdict.{Fails, FailsFor, IsAccepted, IsAcceptedFor, IsChecked, IsBindingMissing};
 ghost use Rattle.verifier_core.specs.Asking.{IsEarlyOrSigned};
 ghost use Rattle.verifier_core.specs.Verdicts.{IsAcceptedAs, IsBounded};
-ghost use Rattle.compact_form.specs.Lowest.{IsLowest};
+ghost use Rattle.refusals.specs.Lowest.{IsLowest};
 ghost use Rattle.compact_form.specs.Trim.{trimmed, is_json as is_json_test};
 ghost use Rattle.verifier_core.specs.Check.{OnFault, IsUnopened, FailsAsCompact, IsContent, OfToken, IsRead, IsOpening, IsVerdict, IsVerdictFor, IsSigned};
 
@@ -16,10 +16,10 @@ use crate::check_signed::fails;
 use crate::rules::Demands;
 use crate::{Content, Policy, VerifyError};
 use claim_tree::Tree;
-use compact_form::Condition;
 use digest_index::Steps;
 use json_form::{TokenError, TokenText};
 use marked_tree::{Marked, strip};
+use refusals::Condition;
 use std::alloc::Global;
 
 /// What a token that is accepted says.

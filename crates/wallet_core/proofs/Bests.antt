@@ -2,9 +2,9 @@
 use Rattle.std.proofs.Math.Seq.{take-suc}
 use Rattle.std.proofs.lemmas.List.{take_all, length-take-le}
 use Rattle.std.proofs.Common.{◌≡◌, take, get_or, add-one, ◌∙◌, ℕ, zero, suc, ◌+◌, ◌<◌, ◌≤◌, List, [], ◌∷◌, ◌++◌, length, ◌⊎◌, inl, inr, Bool, Option, None, Some, refl, sym, ap, subst, arith}
-use Rattle.claim_tree.specs.Lists.{StandsAt}
+use Rattle.sd_outside.specs.Lists.{StandsAt}
 use Rattle.claim_tree.specs.Tree.{Text}
-use Rattle.claim_tree.proofs.Lists.{At-left, At-right, At-either, At-below}
+use Rattle.sd_outside.proofs.Lists.{At-left, At-right, At-either, At-below}
 use Rattle.compact_form.specs.declared.parts.Parts.{Parts}
 use Rattle.holder_core.specs.Asked.{held_rules}
 use Rattle.holder_core.proofs.Picking.{picked_fewer}

@@ -4,8 +4,8 @@ use Rattle.std.specs.Prelude.{sum}
 use Rattle.std.proofs.lemmas.List.Sums.{sum_by-cons}
 use Rattle.std.specs.List.{AllZip}
 use Rattle.claim_tree.specs.Tree.{Text}
-use Rattle.compact_form.specs.Condition.{number_of}
-use Rattle.compact_form.specs.Passing.{Passes}
+use Rattle.refusals.specs.Condition.{number_of}
+use Rattle.refusals.specs.Passing.{Passes}
 use Rattle.hmac_sign.specs.declared.key_set.NamedKey.{NamedKey}
 use Rattle.holder_core.specs.Asked.{held_rules}
 use Rattle.json_form.specs.Token.{IsToken}

@@ -1,6 +1,6 @@
 -- The marks that are chosen for a query, and why none are.
 use Rattle.std.proofs.Common.{◌≡◌, ℕ, List, subst}
-use Rattle.claim_tree.specs.Lists.{IsLeast, AtNone}
+use Rattle.sd_outside.specs.Lists.{IsLeast, AtNone}
 use Rattle.marked_tree.specs.Choice.{IsLeastChoice}
 use Rattle.marked_tree.specs.Marked.{Marked, strip}
 use Rattle.marked_tree.specs.Numbers.{has}

@@ -3,8 +3,8 @@ use Rattle.std.proofs.Common.{◌≡◌, Global, String, ℕ, zero, suc, ◌+◌
 use Rattle.std.proofs.Math.Seq.{take-suc}
 use Rattle.std.proofs.lemmas.Slice.Zip.{all_zipped_more}
 use Rattle.std.specs.List.{AllZip}
-use Rattle.claim_tree.specs.Lists.{StandsAt}
-use Rattle.claim_tree.proofs.Lists.{At-map, At-get_or}
+use Rattle.sd_outside.specs.Lists.{StandsAt}
+use Rattle.sd_outside.proofs.Lists.{At-map, At-get_or}
 use Rattle.cli_parts.specs.Runs.{IsFetched, MissesWord}
 use Rattle.cli_parts.specs.Stops.{OnUnread}
 use Rattle.cli_parts.specs.declared.stop.Stop.{Stop}

@@ -1,9 +1,9 @@
 -- Under a rule one credential is picked, and one presentation of it, or none is.
 use Rattle.std.proofs.Common.{◌≡◌, ℕ, suc, ◌≤◌, Bool, true, false, List, [], ◌∷◌, length, Option, None, refl, sym, ap, ap₂, subst, ◌∙◌, arith}
 use Rattle.std.specs.Prelude.{◌&&◌}
-use Rattle.claim_tree.specs.Lists.{StandsAt}
+use Rattle.sd_outside.specs.Lists.{StandsAt}
 use Rattle.claim_tree.specs.Tree.{Text}
-use Rattle.claim_tree.proofs.Lists.{At-same}
+use Rattle.sd_outside.proofs.Lists.{At-same}
 use Rattle.compact_form.specs.declared.parts.Parts.{Parts}
 use Rattle.compact_form.specs.declared.parts.JwtParts.{JwtParts}
 use Rattle.holder_core.specs.Present.{picked, PicksParts}

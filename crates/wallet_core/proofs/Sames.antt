@@ -4,10 +4,10 @@ use Rattle.std.proofs.Math.Seq.{take-suc}
 use Rattle.std.proofs.Common.{◌≡◌, ◌++◌, ◌⊎◌, inl, inr, take, true, false, ℕ, ◌+◌, ◌<◌, ◌≤◌, List, [], ◌∷◌, length, get_or, Some, add-one, refl, sym, ap, subst, ◌∙◌}
 use Rattle.std.proofs.lemmas.Bool.{true_from_ne_false}
 use Rattle.claim_tree.specs.Tree.{Text, Tree, Elements, Members, array, object, elements_len, members_len}
-use Rattle.claim_tree.specs.Lists.{In}
+use Rattle.sd_outside.specs.Lists.{In}
 use Rattle.claim_tree.specs.Path.{tree_at}
 use Rattle.claim_tree.specs.View.{tree_of}
-use Rattle.claim_tree.proofs.Lists.{At-In, At-get_or, In-append, bytes_same, bytes_refl}
+use Rattle.sd_outside.proofs.Lists.{At-In, At-get_or, In-append, bytes_same, bytes_refl}
 use Rattle.marked_tree.specs.Marked.{MarkedElements, MarkedMembers, strip_elements, strip_members}
 use Rattle.marked_tree.specs.MarkedCalls.{marked_elements_len, marked_members_len}
 use Rattle.marked_tree.specs.View.{marked_elements_of, marked_members_of}

@@ -3,7 +3,7 @@
 use Rattle.std.specs.Prelude.{◌≤◌, ℕ, List, sum}
 use Rattle.std.specs.List.{AllZip}
 use Rattle.claim_tree.specs.Tree.{Text, Tree}
-use Rattle.compact_form.specs.Passing.{Passes}
+use Rattle.refusals.specs.Passing.{Passes}
 use Rattle.digest_sites.specs.Given.{Given}
 use Rattle.hmac_sign.specs.declared.key_set.NamedKey.{NamedKey}
 use Rattle.holder_core.specs.Asked.{held_rules}

@@ -1,6 +1,6 @@
 -- What a query asks, and which sets of marks answer it.
 use Rattle.std.specs.Prelude.{◌≡◌, ◌++◌, ℕ, Bool, List, map, Some}
-use Rattle.claim_tree.specs.Lists.{In, AtNone}
+use Rattle.sd_outside.specs.Lists.{In, AtNone}
 use Rattle.claim_tree.specs.Path.{tree_at}
 use Rattle.claim_tree.specs.Tree.{Tree}
 use Rattle.claim_tree.specs.View.{tree_of}

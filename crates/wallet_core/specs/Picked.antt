@@ -1,6 +1,6 @@
 -- The credential that is picked, and why none is.
 use Rattle.std.specs.Prelude.{◌≡◌, ◌≤◌, ℕ, Bool, List, length, None}
-use Rattle.claim_tree.specs.Lists.{StandsAt}
+use Rattle.sd_outside.specs.Lists.{StandsAt}
 use Rattle.claim_tree.specs.Tree.{Text}
 use Rattle.holder_core.specs.Present.{picked, PicksParts}
 use Rattle.json_form.specs.declared.token.Token.{Token}

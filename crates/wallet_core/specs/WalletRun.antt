@@ -10,8 +10,8 @@ use Rattle.cli_parts.specs.Replies.{Reply, Replies}
 use Rattle.cli_parts.specs.Runs.{IsFetched, MissesWord, RunEnds}
 use Rattle.cli_parts.specs.Telling.{TellsFileFault}
 use Rattle.compact_form.specs.Compact.{compact}
-use Rattle.compact_form.specs.RefusedText.{refused_text}
-use Rattle.compact_form.specs.declared.refusal.Refusal.{Refusal}
+use Rattle.refusals.specs.RefusedText.{refused_text}
+use Rattle.refusals.specs.declared.refusal.Refusal.{Refusal}
 use Rattle.selection_core.specs.Never.{never_rule}
 use Rattle.wallet_core.specs.Meets.{Meets}
 use Rattle.wallet_core.specs.Picked.{IsPicked, IsFewest, HasNoAnswer}

@@ -14,9 +14,9 @@ use claim_tree::{
     Field, FileFault, PathList, Tree, TreeMap, copy, pointer_list_member, pointer_of, read_members,
 };
 use compact_form::FILE_MAX;
+use hmac_sign::keys_member;
 use sd_outside::NoMemory;
 use std::alloc::Global;
-use verifier_core::keys_member;
 
 const FIELDS: [Field; 4] = [Field::Keys, Field::Want, Field::Equal, Field::Never];
 

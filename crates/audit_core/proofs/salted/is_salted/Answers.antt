@@ -1,6 +1,6 @@
 use Rattle.std.proofs.Common.{rules, ◌≡◌, option_map, sym, subst, ◌∙◌}
 use Rattle.claim_tree.specs.View.{tree_of}
-use Rattle.claim_tree.proofs.Lists.{bytes_refl, bytes_same}
+use Rattle.sd_outside.proofs.Lists.{bytes_refl, bytes_same}
 use Rattle.audit_core.specs.AuditSteps.{IsSalt}
 use Rattle.audit_core.proofs.Salts.{salt_stands, listed_text, coded, salted_text}
 use Rattle.audit_core.proofs.salted.is_salted.Goals as goal

@@ -2,7 +2,7 @@ use Rattle.std.proofs.Common.{◌≤◌, [], ◌∷◌, ◌++◌, append_assoc, 
 use Rattle.std.proofs.lemmas.Slice.Zip.{all_zipped_more}
 use Rattle.std.specs.List.{AllZip}
 use Rattle.claim_tree.specs.Tree.{depth}
-use Rattle.claim_tree.specs.Lists.{In}
+use Rattle.sd_outside.specs.Lists.{In}
 use Rattle.digest_sites.specs.GivenView.{given_of}
 use Rattle.audit_core.specs.Audited.{GivesSalted}
 use Rattle.audit_core.proofs.Writtens.{one_unsalted, values_more}

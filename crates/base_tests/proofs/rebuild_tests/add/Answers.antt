@@ -1,7 +1,7 @@
 use Rattle.std.proofs.Common.{◌≡◌, ◌≤◌, List, [], ◌∷◌, ◌++◌, ◌⊎◌, inl, inr, sym, subst}
 use Rattle.claim_tree.specs.Tree.{depth}
-use Rattle.claim_tree.specs.Lists.{In}
-use Rattle.claim_tree.proofs.Lists.{In-append}
+use Rattle.sd_outside.specs.Lists.{In}
+use Rattle.sd_outside.proofs.Lists.{In-append}
 use Rattle.digest_sites.specs.Given.{Given}
 use Rattle.base_tests.proofs.rebuild_tests.add.Goals as goal
 

@@ -1,7 +1,7 @@
 use Rattle.std.proofs.Common.{◌≡◌, ◌++◌, OnOk, string_bytes, subst}
 use Rattle.std.proofs.lemmas.Result.{on_ok_weaker}
-use Rattle.compact_form.specs.declared.fault.Fault.{Fault}
-use Rattle.compact_form.specs.RefusedText.{fault_text}
+use Rattle.refusals.specs.declared.fault.Fault.{Fault}
+use Rattle.refusals.specs.RefusedText.{fault_text}
 use Rattle.cli_parts.specs.Lines.{line}
 use Rattle.feed_core.proofs.FeedVerdicts.{line_accepted, line_refused}
 use Rattle.feed_core.proofs.Told.{told_one}

@@ -1,7 +1,7 @@
 use Rattle.std.proofs.Common.{List, None, subst}
 use Rattle.std.proofs.lemmas.Result.{err_from_is_err_and}
 use Rattle.claim_tree.specs.Tree.{Text}
-use Rattle.compact_form.specs.Lowest.{IsLowest}
+use Rattle.refusals.specs.Lowest.{IsLowest}
 use Rattle.verifier_core.specs.Verdict.{TokenFails, asked}
 use Rattle.verifier_core.specs.Check.{OnFault, IsUnopened, IsContent}
 use Rattle.holder_core.specs.Asked.{held_rules}

@@ -1,5 +1,5 @@
 use Rattle.std.proofs.Common.{sym, ap, subst}
-use Rattle.compact_form.specs.Lowest.{IsLowest}
+use Rattle.refusals.specs.Lowest.{IsLowest}
 use Rattle.verifier_core.specs.Check.{OnFault}
 use Rattle.verifier_core.specs.Verdict.{Rules, TokenFails}
 use Rattle.holder_core.specs.Asked.{Asked}

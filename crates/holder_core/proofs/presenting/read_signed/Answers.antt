@@ -1,5 +1,5 @@
 use Rattle.std.proofs.Common.{IfErr, subst}
-use Rattle.compact_form.specs.Lowest.{IsLowest}
+use Rattle.refusals.specs.Lowest.{IsLowest}
 use Rattle.verifier_core.specs.Verdict.{Rules, TokenFails}
 use Rattle.verifier_core.specs.Check.{OnFault}
 use Rattle.holder_core.proofs.presenting.read_signed.Goals as goal

@@ -1,6 +1,6 @@
 use Rattle.std.proofs.Common.{subst}
 use Rattle.claim_tree.specs.Tree.{Members}
-use Rattle.compact_form.specs.Lowest.{IsLowest}
+use Rattle.refusals.specs.Lowest.{IsLowest}
 use Rattle.compact_form.specs.declared.parts.JwtParts.{JwtParts}
 use Rattle.jws_part.specs.Header.{IsHeaderUnreadable, IsHeaderCritical}
 use Rattle.verifier_core.specs.Verdict.{TokenFails}

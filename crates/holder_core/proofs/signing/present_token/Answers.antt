@@ -1,6 +1,6 @@
 use Rattle.std.proofs.Common.{subst}
 use Rattle.std.proofs.lemmas.Result.{IfErr-weaker}
-use Rattle.compact_form.specs.Lowest.{IsLowest}
+use Rattle.refusals.specs.Lowest.{IsLowest}
 use Rattle.verifier_core.specs.Verdict.{TokenFails}
 use Rattle.holder_core.specs.Asked.{Asked, asked_by_caller, alg_asked}
 use Rattle.holder_core.specs.PresentCalls.{OnTokenFault}

@@ -1,5 +1,5 @@
 use Rattle.std.proofs.Common.{List, subst, arith}
-use Rattle.claim_tree.specs.Lists.{IsLeast, AtNone}
+use Rattle.sd_outside.specs.Lists.{IsLeast, AtNone}
 use Rattle.claim_tree.specs.View.{tree_of}
 use Rattle.marked_tree.specs.Paths.{Path}
 use Rattle.selection_core.specs.ChoiceRefusals.{IsMissing}

@@ -1,5 +1,5 @@
 use Rattle.std.proofs.Common.{ℕ, List, Option, refl, ap, subst, ◌∙◌}
-use Rattle.claim_tree.specs.Lists.{AtNone}
+use Rattle.sd_outside.specs.Lists.{AtNone}
 use Rattle.claim_tree.specs.View.{tree_of}
 use Rattle.marked_tree.specs.Numbers.{has}
 use Rattle.marked_tree.specs.Paths.{Path}

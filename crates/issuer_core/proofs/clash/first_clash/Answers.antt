@@ -1,6 +1,6 @@
 use Rattle.std.proofs.Common.{◌≡◌, ◌≤◌, Some, take, slice_get, ap, sym, ◌∙◌, arith, below_more, add-one}
 use Rattle.std.specs.Option.{option_copied}
-use Rattle.claim_tree.proofs.Lists.{At-below, got_stands}
+use Rattle.sd_outside.proofs.Lists.{At-below, got_stands}
 use Rattle.digest_index.specs.Index.{position_or_end, interned}
 use Rattle.rebuild_core.proofs.Repeated.{repeats_new, grows_new}
 use Rattle.issuer_core.proofs.Clashes.{clash_at}

@@ -1,5 +1,5 @@
 use Rattle.std.proofs.Common.{◌≡◌, ℕ, ◌<◌, take}
-use Rattle.claim_tree.specs.Lists.{Repeats}
+use Rattle.sd_outside.specs.Lists.{Repeats}
 use Rattle.issuer_core.proofs.clash.first_clash.Given as goal
 
 abbrev pub invariant-loop-j : goal.invariant-loop-j

@@ -7,7 +7,7 @@ use Rattle.issuer_core.specs.Written.{IsIssued, IsLaidOut}
 use Rattle.issuer_core.specs.GoodOrder.{IsWritable}
 use Rattle.issuer_core.specs.Issue.{HasNoClash}
 use Rattle.issuer_core.specs.IssueCalls.{IsNotIssued}
-use Rattle.compact_form.specs.Lowest.{NoneApplies}
+use Rattle.refusals.specs.Lowest.{NoneApplies}
 use Rattle.issuer_core.specs.OrderRefusals.{AppliesToOrder}
 use Rattle.issuer_core.proofs.issuing.issue.Goals as goal
 

@@ -3,9 +3,9 @@ use Rattle.std.proofs.lemmas.Result.{IfOk-weaker}
 use Rattle.claim_tree.specs.Tree.{depth}
 use Rattle.claim_tree.specs.View.{tree_of}
 use Rattle.claim_tree.specs.Kept.{ReadsKept}
-use Rattle.compact_form.specs.PartWords.{part_word}
-use Rattle.compact_form.specs.declared.fault.JsonPlace.TheVariants.{NotObject}
-use Rattle.compact_form.specs.declared.fault.Part.TheVariants.{Header}
+use Rattle.refusals.specs.PartWords.{part_word}
+use Rattle.refusals.specs.declared.fault.JsonPlace.TheVariants.{NotObject}
+use Rattle.refusals.specs.declared.fault.Part.TheVariants.{Header}
 use Rattle.json_form.specs.Json.{IsJson}
 use Rattle.json_form.specs.MembersRead.{MembersSay}
 use Rattle.json_form.specs.Printable.{IsPrintable}

@@ -1,7 +1,7 @@
 use Rattle.std.proofs.Common.{◌≡◌, Err, sym, ap, subst, ◌∙◌}
 use Rattle.claim_tree.specs.FileForms.{Says}
-use Rattle.compact_form.specs.declared.fault.JsonPlace.TheVariants.{Stray}
-use Rattle.compact_form.specs.declared.fault.Part.TheVariants.{Payload}
+use Rattle.refusals.specs.declared.fault.JsonPlace.TheVariants.{Stray}
+use Rattle.refusals.specs.declared.fault.Part.TheVariants.{Payload}
 use Rattle.json_form.specs.Json.{found_part, IsWordTree}
 use Rattle.json_form.specs.JsonPlaces.{IsNoWord}
 use Rattle.json_form.proofs.SayOrFail.{same_place, same_error}

@@ -2,9 +2,9 @@ use Rattle.std.proofs.Common.{◌≡◌, ◌≤◌, sym, ap, ap₂, subst, ◌�
 use Rattle.std.proofs.lemmas.Result.{IfOk-weaker}
 use Rattle.claim_tree.specs.Tree.{Text, Members, object, depth, leaf, text, inserted}
 use Rattle.claim_tree.specs.JsonText.{Reads}
-use Rattle.compact_form.specs.PartWords.{part_word}
+use Rattle.refusals.specs.PartWords.{part_word}
 use Rattle.compact_form.specs.declared.parts.JwtParts.{JwtParts}
-use Rattle.compact_form.specs.declared.fault.Part.TheVariants.{Payload}
+use Rattle.refusals.specs.declared.fault.Part.TheVariants.{Payload}
 use Rattle.json_form.specs.Json.{IsFlat}
 use Rattle.json_form.specs.Written.{flat_of}
 use Rattle.json_form.proofs.WrittenForms.{flat_depth, flat_says}

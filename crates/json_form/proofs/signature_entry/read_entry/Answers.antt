@@ -2,8 +2,8 @@ use Rattle.std.proofs.Common.{Err, ap, subst, ◌∙◌}
 use Rattle.claim_tree.specs.Tree.{Members}
 use Rattle.claim_tree.specs.FileForms.{MaySay}
 use Rattle.claim_tree.specs.Removed.{removed}
-use Rattle.compact_form.specs.PartWords.{part_word}
-use Rattle.compact_form.specs.declared.fault.Part.TheVariants.{Protected, Signature, Header, KbJwt}
+use Rattle.refusals.specs.PartWords.{part_word}
+use Rattle.refusals.specs.declared.fault.Part.TheVariants.{Protected, Signature, Header, KbJwt}
 use Rattle.json_form.specs.Json.{IsJwtTree, IsObjectOf}
 use Rattle.json_form.specs.JsonPlaces.{IsNoWord, IsWrongMember}
 use Rattle.json_form.proofs.SayOrFail.{both_said, no_signature, header_kept, header_said, binding_kept, wrong_at, same_place, same_error, first_protected, first_signature, first_header, first_disclosures, first_kb_jwt}

@@ -1,8 +1,8 @@
 use Rattle.std.proofs.Common.{◌≡◌, IfNone, sym, subst}
 use Rattle.claim_tree.specs.FileForms.{HasValue}
 use Rattle.claim_tree.specs.View.{tree_of}
-use Rattle.compact_form.specs.declared.fault.JsonPlace.TheVariants.{Wrong}
-use Rattle.compact_form.specs.declared.fault.Part.TheVariants.{KbJwt}
+use Rattle.refusals.specs.declared.fault.JsonPlace.TheVariants.{Wrong}
+use Rattle.refusals.specs.declared.fault.Part.TheVariants.{KbJwt}
 use Rattle.json_form.specs.Json.{IsJwtTree}
 use Rattle.json_form.proofs.Members.{found_here}
 use Rattle.json_form.proofs.SayOrFail.{wrong_here}

@@ -1,6 +1,6 @@
 use Rattle.std.proofs.Common.{refl}
 use Rattle.claim_tree.specs.View.{tree_of}
-use Rattle.compact_form.specs.declared.fault.Part.TheVariants.{Header}
+use Rattle.refusals.specs.declared.fault.Part.TheVariants.{Header}
 use Rattle.json_form.proofs.Members.{found_here, no_object}
 use Rattle.json_form.proofs.signature_entry.take_header.Goals as goal
 

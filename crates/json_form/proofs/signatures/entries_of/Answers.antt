@@ -1,8 +1,8 @@
 use Rattle.std.proofs.Common.{◌≡◌, refl, sym, ap, ◌∙◌}
 use Rattle.claim_tree.specs.Removed.{removed}
 use Rattle.claim_tree.specs.View.{tree_of}
-use Rattle.compact_form.specs.PartWords.{part_word}
-use Rattle.compact_form.specs.declared.fault.Part.TheVariants.{Signatures}
+use Rattle.refusals.specs.PartWords.{part_word}
+use Rattle.refusals.specs.declared.fault.Part.TheVariants.{Signatures}
 use Rattle.json_form.specs.Json.{has_beside}
 use Rattle.json_form.specs.JsonPlaces.{no_list, beside}
 use Rattle.json_form.specs.MembersRead.{itself, listed}

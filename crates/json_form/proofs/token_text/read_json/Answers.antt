@@ -2,8 +2,8 @@ use Rattle.std.proofs.Common.{◌≡◌, ◌≤◌, true, length, Err, IfSome, s
 use Rattle.std.specs.Prelude.{IfNone}
 use Rattle.std.proofs.lemmas.Result.{err_from_is_err_and}
 use Rattle.sd_outside.specs.Limits.{file_max}
-use Rattle.compact_form.specs.declared.condition.Condition.{Condition}
-use Rattle.compact_form.specs.Faults.{unplaced}
+use Rattle.refusals.specs.declared.condition.Condition.{Condition}
+use Rattle.refusals.specs.Faults.{unplaced}
 use Rattle.compact_form.specs.Trim.{trimmed, is_json}
 use Rattle.json_form.specs.declared.token.TokenError.{TokenError}
 use Rattle.json_form.specs.Json.{IsJson}

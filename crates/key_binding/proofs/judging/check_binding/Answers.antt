@@ -1,6 +1,6 @@
 use Rattle.std.proofs.Common.{subst}
 use Rattle.claim_tree.specs.View.{tree_of}
-use Rattle.compact_form.specs.declared.condition.Condition.{Condition}
+use Rattle.refusals.specs.declared.condition.Condition.{Condition}
 use Rattle.compact_form.specs.declared.parts.JwtParts.{JwtParts}
 use Rattle.compact_form.specs.Views.{jwt_of}
 use Rattle.key_binding.specs.declared.errors.BoundError.{BoundError}

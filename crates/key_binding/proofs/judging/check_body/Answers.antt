@@ -1,6 +1,6 @@
 use Rattle.std.proofs.Common.{refl}
 use Rattle.claim_tree.specs.View.{tree_of}
-use Rattle.compact_form.specs.declared.condition.Condition.{Condition}
+use Rattle.refusals.specs.declared.condition.Condition.{Condition}
 use Rattle.key_binding.specs.Judged.{HasClaims}
 use Rattle.key_binding.specs.JudgedSteps.{judged_of}
 use Rattle.key_binding.specs.Read.{claims_of}

@@ -1,5 +1,5 @@
 use Rattle.std.proofs.Common.{refl, sym, subst, ◌∙◌}
-use Rattle.compact_form.specs.declared.condition.Condition.{Condition}
+use Rattle.refusals.specs.declared.condition.Condition.{Condition}
 use Rattle.key_binding.specs.CallerSeen.{Tells}
 use Rattle.key_binding.specs.JudgedSteps.{judged_of, IsAlgRefusedBy, IsUnknownBy, IsBadBy}
 use Rattle.key_binding.proofs.BindingSteps.{refuse, at28, at29, at30, at_type, at32}

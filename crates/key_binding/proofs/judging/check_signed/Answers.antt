@@ -1,6 +1,6 @@
 use Rattle.std.proofs.Common.{inl, inr, Err, refl, ap}
 use Rattle.claim_tree.specs.Tree.{no_members}
-use Rattle.compact_form.specs.declared.condition.Condition.{Condition}
+use Rattle.refusals.specs.declared.condition.Condition.{Condition}
 use Rattle.jws_part.proofs.Headers.{read_not_unreadable, read_not_critical}
 use Rattle.key_binding.specs.JudgedSteps.{judged_of}
 use Rattle.key_binding.proofs.BindingSteps.{refuse, at28}

@@ -1,7 +1,7 @@
 use Rattle.std.proofs.Common.{arith}
-use Rattle.compact_form.specs.Faults.{unplaced}
-use Rattle.compact_form.specs.Numbered.{one_condition}
-use Rattle.compact_form.proofs.Lowest.{one_number}
+use Rattle.refusals.specs.Faults.{unplaced}
+use Rattle.refusals.specs.Numbered.{one_condition}
+use Rattle.refusals.proofs.Lowest.{one_number}
 use Rattle.key_binding.specs.BindingConditions.{BindingFails}
 use Rattle.key_binding.proofs.BindingSteps.{binding_numbers}
 use Rattle.key_binding.proofs.laws.one_binding_verdict.Goals as goal

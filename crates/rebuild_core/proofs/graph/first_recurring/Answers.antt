@@ -1,5 +1,5 @@
 use Rattle.std.proofs.Common.{true, sym, ◌∙◌, ap, refl, slice_index_or, arith}
-use Rattle.claim_tree.proofs.Lists.{At-In}
+use Rattle.sd_outside.proofs.Lists.{At-In}
 use Rattle.rebuild_core.proofs.Worklist.{At-index}
 use Rattle.rebuild_core.proofs.MetNumbers.{seen_found, seen_step, seen_end}
 use Rattle.rebuild_core.proofs.graph.first_recurring.Goals as goal

@@ -1,5 +1,5 @@
 use Rattle.std.proofs.Common.{refl, subst, arith}
-use Rattle.claim_tree.proofs.Lists.{At-same}
+use Rattle.sd_outside.proofs.Lists.{At-same}
 use Rattle.digest_sites.specs.GivenView.{given_of}
 use Rattle.rebuild_core.specs.Rows.{seen}
 use Rattle.rebuild_core.specs.RowNames.{IsMisfit}

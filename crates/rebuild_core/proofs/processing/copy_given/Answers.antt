@@ -2,9 +2,9 @@ use Rattle.std.proofs.Common.{◌≡◌, ℕ, zero, suc, ◌+◌, ◌<◌, ◌�
 use Rattle.std.proofs.lemmas.List.{map-append, take_all}
 use Rattle.std.proofs.Math.Seq.{take-suc}
 use Rattle.claim_tree.specs.Tree.{Text, Tree, depth}
-use Rattle.claim_tree.specs.Lists.{In}
+use Rattle.sd_outside.specs.Lists.{In}
 use Rattle.claim_tree.specs.View.{tree_of}
-use Rattle.claim_tree.proofs.Lists.{In-map}
+use Rattle.sd_outside.proofs.Lists.{In-map}
 use Rattle.digest_sites.specs.Given.{Given as Seen}
 use Rattle.digest_sites.specs.GivenView.{given_of}
 use Rattle.digest_sites.specs.declared.given.Given.{Given}

@@ -1,9 +1,9 @@
 use Rattle.std.proofs.Common.{◌≡◌, ◌<◌, ⊎_elim, length, sym, ap, subst, arith}
 use Rattle.std.proofs.lemmas.List.{length-map}
 use Rattle.claim_tree.specs.Tree.{IsOrdered}
-use Rattle.claim_tree.specs.Lists.{StandsAt}
+use Rattle.sd_outside.specs.Lists.{StandsAt}
 use Rattle.claim_tree.proofs.Counting.{before_or_at}
-use Rattle.claim_tree.proofs.Lists.{At-below, At-same, In-At}
+use Rattle.sd_outside.proofs.Lists.{At-below, At-same, In-At}
 use Rattle.digest_sites.specs.Given.{Given}
 use Rattle.digest_sites.specs.GivenView.{given_of}
 use Rattle.rebuild_core.proofs.GivenFacts.{item_at}

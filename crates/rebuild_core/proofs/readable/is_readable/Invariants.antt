@@ -1,6 +1,6 @@
 use Rattle.std.proofs.Common.{ℕ, ◌<◌}
 use Rattle.claim_tree.specs.Tree.{IsOrdered}
-use Rattle.claim_tree.specs.Lists.{StandsAt}
+use Rattle.sd_outside.specs.Lists.{StandsAt}
 use Rattle.digest_sites.specs.Given.{Given}
 use Rattle.rebuild_core.proofs.readable.is_readable.Given as goal
 

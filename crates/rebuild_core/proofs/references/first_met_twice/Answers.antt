@@ -1,6 +1,6 @@
 use Rattle.std.proofs.Common.{◌≡◌, IfOk, subst, ◌∙◌}
 use Rattle.std.specs.Prelude.{MatchOption}
-use Rattle.claim_tree.specs.Lists.{In, AtNone, IsLeast, Repeats}
+use Rattle.sd_outside.specs.Lists.{In, AtNone, IsLeast, Repeats}
 use Rattle.rebuild_core.specs.Met.{met_in}
 use Rattle.rebuild_core.proofs.references.first_met_twice.Goals as goal
 

@@ -1,7 +1,7 @@
 use Rattle.std.proofs.Common.{[], ◌∷◌, ◌++◌, length, length-append, string_bytes, append_assoc, append-nil, sym, ap, ◌∙◌, arith, rules}
 use Rattle.std.proofs.lemmas.Slice.Zip.{all_zipped_more}
-use Rattle.compact_form.specs.Faults.{placed}
-use Rattle.compact_form.specs.declared.condition.Condition.{Condition}
+use Rattle.refusals.specs.Faults.{placed}
+use Rattle.refusals.specs.declared.condition.Condition.{Condition}
 use Rattle.verifier_core.specs.Verdict.{Gives}
 use Rattle.verifier_core.proofs.CheckTests.{unread_of}
 use Rattle.cli_parts.proofs.Stopped.{of_fault}

@@ -1,5 +1,5 @@
 use Rattle.std.proofs.Common.{List, Option, Err, ◌++◌, string_bytes, ap, sym, ◌∙◌, subst}
-use Rattle.claim_tree.specs.Lists.{IsSuchAt, IsLeast}
+use Rattle.sd_outside.specs.Lists.{IsSuchAt, IsLeast}
 use Rattle.claim_tree.specs.Tree.{Text, Members}
 use Rattle.claim_tree.specs.View.{tree_of}
 use Rattle.jws_part.specs.Part.{IsBody, IsNoObject}

@@ -1,9 +1,9 @@
 use Rattle.std.proofs.Common.{◌≡◌, subst, ◌∙◌}
 use Rattle.compact_form.specs.Compact.{compact}
-use Rattle.compact_form.specs.Lowest.{IsLowest}
+use Rattle.refusals.specs.Lowest.{IsLowest}
 use Rattle.verifier_core.specs.Check.{OnFault}
 use Rattle.verifier_core.specs.Verdict.{Fails}
-use Rattle.verifier_core.specs.declared.check.VerifyError.{VerifyError}
+use Rattle.verifier_core.specs.declared.token_checking.VerifyError.{VerifyError}
 use Rattle.sdjwt_cli.proofs.Summaries.{not_refused, is_verified}
 use Rattle.sdjwt_cli.proofs.summary.verify_presented.Goals as goal
 

@@ -1,5 +1,5 @@
 use Rattle.std.proofs.Common.{◌≡◌, refl, subst}
-use Rattle.compact_form.specs.declared.fault.Fault.{Fault}
+use Rattle.refusals.specs.declared.fault.Fault.{Fault}
 use Rattle.cli_parts.specs.Lines.{refusal}
 use Rattle.cli_parts.specs.Stops.{OnRefused}
 use Rattle.sdjwt_cli.specs.Verify.{DoesNotVerifyUnder}

@@ -1,5 +1,5 @@
 use Rattle.std.proofs.Common.{rules}
-use Rattle.compact_form.specs.Lowest.{IsLowest}
+use Rattle.refusals.specs.Lowest.{IsLowest}
 use Rattle.verifier_core.specs.Verdict.{Fails}
 use Rattle.sdjwt_lib.proofs.end_to_end.verified.Goals as goal
 

@@ -1,5 +1,5 @@
 use Rattle.std.proofs.Common.{◌≡◌, ℕ, List, subst, sym, ◌∙◌, refl, arith}
-use Rattle.claim_tree.specs.Lists.{IsLeast, AtNone}
+use Rattle.sd_outside.specs.Lists.{IsLeast, AtNone}
 use Rattle.marked_tree.specs.Marked.{strip}
 use Rattle.marked_tree.specs.Numbers.{has}
 use Rattle.marked_tree.specs.Paths.{Path, chosen}

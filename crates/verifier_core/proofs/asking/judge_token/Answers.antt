@@ -1,6 +1,6 @@
 use Rattle.std.proofs.Common.{subst}
 use Rattle.claim_tree.specs.View.{tree_of}
-use Rattle.compact_form.specs.Lowest.{IsLowest}
+use Rattle.refusals.specs.Lowest.{IsLowest}
 use Rattle.verifier_core.specs.AskingSteps.{demands_in}
 use Rattle.verifier_core.specs.Verdict.{Demands, FailsFor}
 use Rattle.verifier_core.proofs.Verdicts.{few}

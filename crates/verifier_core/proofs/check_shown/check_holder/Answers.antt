@@ -4,8 +4,8 @@ use Rattle.json_form.specs.declared.token.Token.{Token}
 use Rattle.claim_tree.specs.Tree.{Text}
 use Rattle.claim_tree.specs.View.{tree_of}
 use Rattle.compact_form.specs.Compact.{hashed}
-use Rattle.compact_form.specs.Lowest.{IsLowest}
-use Rattle.compact_form.specs.Faults.{unplaced}
+use Rattle.refusals.specs.Lowest.{IsLowest}
+use Rattle.refusals.specs.Faults.{unplaced}
 use Rattle.compact_form.specs.Views.{jwt_of}
 use Rattle.key_binding.specs.Judged.{judged}
 use Rattle.key_binding.specs.JudgedSteps.{rules_seen}

@@ -2,7 +2,7 @@ use Rattle.std.proofs.Common.{subst}
 use Rattle.std.proofs.lemmas.Result.{IfErr-weaker, on_ok_weaker}
 use Rattle.claim_tree.specs.Tree.{Tree}
 use Rattle.claim_tree.specs.View.{tree_of}
-use Rattle.compact_form.specs.Lowest.{IsLowest, NoneFails}
+use Rattle.refusals.specs.Lowest.{IsLowest, NoneFails}
 use Rattle.verifier_core.specs.Verdict.{HolderFails, FailsFor}
 use Rattle.verifier_core.specs.Check.{ShownFails}
 use Rattle.verifier_core.proofs.CheckSteps.{on_fault}

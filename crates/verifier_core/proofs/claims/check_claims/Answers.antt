@@ -1,10 +1,10 @@
 use Rattle.std.proofs.Common.{◌≡◌, List, None, refl, sym, ap, subst}
 use Rattle.std.proofs.lemmas.Bool.{false≢true}
 use Rattle.claim_tree.specs.Tree.{Text, get}
-use Rattle.claim_tree.specs.Lists.{StandsAt, IsLeast}
+use Rattle.sd_outside.specs.Lists.{StandsAt, IsLeast}
 use Rattle.claim_tree.specs.View.{tree_of}
-use Rattle.compact_form.specs.declared.condition.Condition.{Condition}
-use Rattle.compact_form.specs.Lowest.{IsLowest}
+use Rattle.refusals.specs.declared.condition.Condition.{Condition}
+use Rattle.refusals.specs.Lowest.{IsLowest}
 use Rattle.verifier_core.specs.Verdict.{Demands, ClaimFails}
 use Rattle.verifier_core.proofs.LeastPlaces.{refuse_placed}
 use Rattle.verifier_core.proofs.ClaimSteps.{before_missing}

@@ -1,7 +1,7 @@
 use Rattle.std.proofs.Common.{◌≡◌, Some, slice_get, ap, sym, ◌∙◌, arith}
 use Rattle.std.specs.Option.{option_copied}
 use Rattle.claim_tree.specs.View.{tree_of}
-use Rattle.claim_tree.proofs.Lists.{At-below, got_stands}
+use Rattle.sd_outside.proofs.Lists.{At-below, got_stands}
 use Rattle.verifier_core.proofs.ClaimSteps.{no_claim, some_claim, has_more}
 use Rattle.verifier_core.proofs.claims.first_missing.Goals as goal
 

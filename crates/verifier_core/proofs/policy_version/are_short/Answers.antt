@@ -1,6 +1,6 @@
 use Rattle.std.proofs.Common.{◌≡◌, Some, slice_get, ap, refl, sym, ◌∙◌, arith}
 use Rattle.std.specs.Option.{option_copied}
-use Rattle.claim_tree.proofs.Lists.{At-In, In-At, At-below, got_stands}
+use Rattle.sd_outside.proofs.Lists.{At-In, In-At, At-below, got_stands}
 use Rattle.verifier_core.proofs.PolicyVersions.{one_more}
 use Rattle.verifier_core.proofs.policy_version.are_short.Goals as goal
 

@@ -1,5 +1,5 @@
 use Rattle.std.proofs.Common.{◌≡◌, Ok, Err, inl, refl, ap}
-use Rattle.verifier_core.specs.declared.check.VerifyError.{VerifyError}
+use Rattle.verifier_core.specs.declared.token_checking.VerifyError.{VerifyError}
 use Rattle.verifier_core.proofs.Contents.{open_refused, is_opened, verdict_of}
 use Rattle.verifier_core.proofs.verdict.judged.Goals as goal
 

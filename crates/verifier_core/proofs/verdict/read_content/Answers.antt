@@ -1,7 +1,7 @@
 use Rattle.std.proofs.Common.{refl, sym, ap, subst}
 use Rattle.std.proofs.lemmas.Bool.{false≢true}
 use Rattle.std.proofs.lemmas.Result.{IfErr-weaker}
-use Rattle.compact_form.specs.Lowest.{IsLowest}
+use Rattle.refusals.specs.Lowest.{IsLowest}
 use Rattle.json_form.specs.declared.token.Token.{Token}
 use Rattle.verifier_core.specs.Check.{OnFault}
 use Rattle.verifier_core.specs.Verdict.{Rules, Demands, TokenFails, FailsFor, IsBindingMissing}

@@ -1,7 +1,7 @@
 use Rattle.holder_core.specs.Asked.{held_rules}
 use Rattle.verifier_core.specs.Check.{OnFault}
-use Rattle.compact_form.specs.Lowest.{IsLowest}
-use Rattle.compact_form.specs.Faults.{failed_of}
+use Rattle.refusals.specs.Lowest.{IsLowest}
+use Rattle.refusals.specs.Faults.{failed_of}
 use Rattle.verifier_core.specs.Verdict.{TokenFails}
 use Rattle.std.proofs.Common.{subst}
 use Rattle.wallet_core.proofs.answering.open_held.Goals as goal

@@ -2,7 +2,7 @@ use Rattle.std.proofs.Common.{◌≡◌, Some, sym, ap, ap₂, ◌∙◌, arith}
 use Rattle.claim_tree.specs.Tree.{Text, Tree, Elements, Members, element_at}
 use Rattle.claim_tree.specs.TreeCalls.{member_at}
 use Rattle.claim_tree.specs.View.{tree_of}
-use Rattle.claim_tree.proofs.Lists.{pair_same}
+use Rattle.sd_outside.proofs.Lists.{pair_same}
 use Rattle.marked_tree.specs.Marked.{strip}
 use Rattle.marked_tree.specs.View.{marked_of}
 use Rattle.marked_tree.proofs.MarkedViews.{Element, Entry}

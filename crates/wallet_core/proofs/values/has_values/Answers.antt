@@ -1,5 +1,5 @@
 use Rattle.std.proofs.Common.{List, sym, subst, ◌∙◌}
-use Rattle.claim_tree.specs.Lists.{In}
+use Rattle.sd_outside.specs.Lists.{In}
 use Rattle.marked_tree.specs.Marked.{strip}
 use Rattle.marked_tree.specs.View.{marked_of}
 use Rattle.wallet_core.specs.declared.query.Equal.{Equal}

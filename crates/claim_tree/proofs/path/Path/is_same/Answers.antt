@@ -1,5 +1,5 @@
 use Rattle.std.proofs.Common.{◌≡◌, refl, sym, ◌∙◌, string_bytes}
-use Rattle.claim_tree.proofs.Lists.{bytes_same, bytes_refl}
+use Rattle.sd_outside.proofs.Lists.{bytes_same, bytes_refl}
 use Rattle.claim_tree.proofs.PathSteps.{ends_of_steps, one_text}
 use Rattle.claim_tree.proofs.path.Path.is_same.Goals as goal
 

@@ -2,7 +2,7 @@ use Rattle.std.proofs.Common.{◌≡◌, ◌≤◌, ◌<◌, ℕ, zero, suc, Lis
 use Rattle.std.proofs.lemmas.List.{length-map}
 use Rattle.std.proofs.Math.ListN.{set}
 use Rattle.claim_tree.specs.Tree.{leaf, null}
-use Rattle.claim_tree.specs.Lists.{StandsAt}
+use Rattle.sd_outside.specs.Lists.{StandsAt}
 use Rattle.claim_tree.specs.View.{tree_of}
 use Rattle.digest_sites.specs.Given.{Given as Seen}
 use Rattle.digest_sites.specs.GivenView.{given_of, emptied}

@@ -1,0 +1,27 @@
+-- The fault that names a condition and its place, and the condition that a fault names.
+use Rattle.std.specs.Prelude.{ℕ, refl}
+use Rattle.refusals.specs.declared.condition.Condition.{Condition}
+use Rattle.refusals.specs.declared.fault.Fault.{Fault}
+use Rattle.refusals.specs.declared.fault.Place.{Place}
+use Rattle.refusals.specs.declared.fault.Place.TheVariants.{Nowhere, At}
+use Rattle.refusals.specs.Condition.{number_of}
+
+abbrev pub fault_number : Fault → ℕ
+fault_number fault = fault.number
+
+-- the condition fails at this place
+abbrev pub fault_at : Condition → Place → Fault
+fault_at condition place =
+    record { number = number_of condition; place = place; of_condition = (condition, refl) }
+
+-- it names no place
+abbrev pub unplaced : Condition → Fault
+unplaced condition = fault_at condition Nowhere
+
+-- it fails at a number
+abbrev pub placed : Condition → ℕ → Fault
+placed condition i = fault_at condition (At i)
+
+-- the condition that the fault names: by its type a fault has one
+abbrev pub failed_of : Fault → Condition
+failed_of fault = fault.of_condition.0
