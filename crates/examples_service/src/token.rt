@@ -1,11 +1,11 @@
 // The token of a payload, some places of which are hidden.
-ghost use Rattle.std.specs.Prelude.{◌≡◌, ◌≤◌, length, IfOk, IfErr, IsErrOf};
+ghost use Rattle.std.specs.Prelude.{◌≤◌, length, IfOk, IfErr, IsErrOf};
 ghost use Rattle.sdjwt_lib.specs.sd_outside.Causes.{Rose};
 ghost use Rattle.sdjwt_lib.specs.sd_outside.Limits.{issue_max, json_depth_max};
 ghost use Rattle.sdjwt_lib.specs.claim_tree.Tree.{depth};
 ghost use Rattle.sdjwt_lib.specs.claim_tree.View.{tree_of};
 ghost use Rattle.sdjwt_lib.specs.refusals.Lowest.{NoneApplies};
-ghost use Rattle.sdjwt_lib.specs.hmac_sign.Agreement.{Agree};
+ghost use Rattle.sdjwt_lib.specs.hmac_sign.Agreement.{IsSameSigner};
 ghost use Rattle.sdjwt_lib.specs.issuer_core.declared.errors.IssueError.{IssueError};
 ghost use Rattle.sdjwt_lib.specs.issuer_core.Issue.{HasNoClash};
 ghost use Rattle.sdjwt_lib.specs.issuer_core.IssueCalls.{IsNotIssued};
@@ -47,9 +47,7 @@ pub fn token_for<S: Signer>(
         → Rose (S.faults signer.old) (S.faults signer.new) }
 
     // what stays
-    ensures same_good { Agree (S.good signer.new) (S.good signer.old) }
-    ensures same_alg { S.alg_name_of signer.new ≡ S.alg_name_of signer.old }
-    ensures later { S.faults signer.old ≤ S.faults signer.new }
+    ensures kept { IsSameSigner S.good S.alg_name_of S.faults signer.old signer.new }
 {
     let order = Order {
         payload,

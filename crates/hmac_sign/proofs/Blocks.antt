@@ -1,8 +1,8 @@
 -- The block of a key, and its pads.
-use Rattle.std.proofs.Common.{◌≡◌, ℕ, ◌+◌, ◌-◌, ◌<◌, ◌≤◌, List, ◌++◌, Bool, true, false, cond, length, replicate, take, get_or, bit_xor, append_assoc, refl, ap, sym, ◌∙◌, subst, arith}
+use Rattle.std.proofs.Common.{◌≡◌, ℕ, ◌+◌, ◌-◌, ◌<◌, ◌≤◌, List, ◌++◌, Bool, true, false, cond, length, replicate, take, bit_xor, append_assoc, refl, ap, sym, ◌∙◌, subst, arith}
 use Rattle.std.specs.Prelude.{nat_lt}
 use Rattle.std.proofs.lemmas.Bool.{ltb-true, ltb-false}
-use Rattle.std.proofs.lemmas.List.{ext_get_or, length-map, get_or-map, length-append, length-replicate, append-nil, take-map, take-replicate}
+use Rattle.std.proofs.lemmas.List.{length-append, length-replicate, append-nil, take-map, take-replicate}
 use Rattle.std.proofs.Math.Seq.{take-append-add}
 use Rattle.sha2.proofs.Facts256.{length-sha256}
 use Rattle.sha2.proofs.Facts512.{length-sha384, length-sha512}

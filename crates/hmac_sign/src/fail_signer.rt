@@ -1,11 +1,11 @@
 // A signer for tests that fails where it is told to.
-ghost use Rattle.std.specs.Prelude.{◌≡◌, ◌<◌, ◌≤◌, ◌↔◌, length, IfOk, IsErrOf};
+ghost use Rattle.std.specs.Prelude.{◌≡◌, ◌<◌, ◌↔◌, length, IfOk, IsErrOf};
 ghost use Rattle.sd_outside.specs.Causes.{Rose};
 ghost use Rattle.hmac_sign.specs.Algs.{alg_text};
 ghost use Rattle.hmac_sign.specs.declared.alg.Alg.TheVariants.{Hs256};
 ghost use Rattle.hmac_sign.specs.FailState.{after_call};
 ghost use Rattle.hmac_sign.specs.Hmac.{IsGood, hs256_key};
-ghost use Rattle.hmac_sign.specs.Agreement.{Agree};
+ghost use Rattle.hmac_sign.specs.Agreement.{IsSameSigner};
 
 use crate::{Alg, Hs256Key, SignError, Signatures, Signer};
 use sd_outside::ByteBox;
@@ -75,9 +75,9 @@ impl Signer for FailSigner {
         ensures good { IfOk result (IsGood (hs256_key self.old.key) head.now body.now) }
         ensures some { IfOk result (λ signature. 0 < length signature) }
         ensures failed { IsErrOf result SignError.Failed → Rose self.old.faults self.new.faults }
-        ensures same_good { Agree (IsGood (hs256_key self.new.key))
-            (IsGood (hs256_key self.old.key)) }
-        ensures later { self.old.faults ≤ self.new.faults }
+        ensures kept { IsSameSigner
+            (λ signer. IsGood (hs256_key signer.key)) (λ _. alg_text Hs256)
+            (λ signer. signer.faults) self.old self.new }
 
         // it fails exactly at its call, and just then it counts
         ensures fails { IsErrOf result SignError.Failed ↔ (self.old.calls ≡ self.old.call) }

@@ -1,9 +1,9 @@
 // Who signs, and who checks.
-ghost use Rattle.std.specs.Prelude.{◌≡◌, ◌<◌, ◌≤◌, ◌↔◌, ℕ, length, IfOk, IsTrue, IsErrOf};
+ghost use Rattle.std.specs.Prelude.{◌≡◌, ◌<◌, ◌↔◌, ℕ, length, IfOk, IsTrue, IsErrOf};
 ghost use Rattle.sd_outside.specs.Causes.{Rose};
 ghost use Rattle.claim_tree.specs.Tree.{Text};
 ghost use Rattle.hmac_sign.specs.Signatures.{Meaning};
-ghost use Rattle.hmac_sign.specs.Agreement.{Agree};
+ghost use Rattle.hmac_sign.specs.Agreement.{IsSameSigner};
 ghost use Rattle.hmac_sign.specs.declared.sign.SignError.TheVariants.{Memory};
 
 use sd_outside::{ByteBox, NoMemory};
@@ -52,9 +52,7 @@ pub trait Signer: Signatures {
             → Rose (faults self.old) (faults self.new) }
 
         // what stays
-        ensures same_good { Agree (Self.good self.new) (Self.good self.old) }
-        ensures same_alg { alg_name_of self.new ≡ alg_name_of self.old }
-        ensures later { faults self.old ≤ faults self.new };
+        ensures kept { IsSameSigner Self.good alg_name_of faults self.old self.new };
 }
 
 /// Who checks signatures.

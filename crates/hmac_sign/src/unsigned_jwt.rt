@@ -1,7 +1,7 @@
 // A JWT that has no signature yet.
-ghost use Rattle.std.specs.Prelude.{◌≡◌, ◌≤◌, ◌<◌, ◌++◌, codes, IfOk, IsErrOf};
+ghost use Rattle.std.specs.Prelude.{◌≡◌, ◌<◌, ◌++◌, codes, IfOk, IsErrOf};
 ghost use Rattle.sd_outside.specs.Causes.{Rose};
-ghost use Rattle.hmac_sign.specs.Agreement.{Agree};
+ghost use Rattle.hmac_sign.specs.Agreement.{IsSameSigner};
 ghost use Rattle.hmac_sign.specs.SignedJwt.{IsSignedWith, IsSignedBy};
 
 use crate::{SignError, Signer};
@@ -50,9 +50,7 @@ impl UnsignedJwt {
             → Rose (S.faults signer.old) (S.faults signer.new) }
 
         // what stays
-        ensures same_good { Agree (S.good signer.new) (S.good signer.old) }
-        ensures same_alg { S.alg_name_of signer.new ≡ S.alg_name_of signer.old }
-        ensures later { S.faults signer.old ≤ S.faults signer.new }
+        ensures kept { IsSameSigner S.good S.alg_name_of S.faults signer.old signer.new }
     {
         let signature = signer.sign(alloc, self.protected.as_str(), self.payload.as_str())?;
         Ok(self.with_signature(alloc, signature.bytes())?)

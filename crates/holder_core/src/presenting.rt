@@ -6,7 +6,7 @@ ghost use Rattle.claim_tree.specs.View.{tree_of};
 ghost use Rattle.compact_form.specs.Compact.{AreWords, compact as compact_text};
 ghost use Rattle.refusals.specs.Lowest.{IsLowest};
 ghost use Rattle.sd_outside.specs.Limits.{compact_max, json_depth_max};
-ghost use Rattle.hmac_sign.specs.Agreement.{Agree};
+ghost use Rattle.hmac_sign.specs.Agreement.{IsSameSigner};
 ghost use Rattle.json_form.specs.Token.{IsToken};
 ghost use Rattle.json_form.specs.declared.token.Token.{Token as SeenToken};
 ghost use Rattle.marked_tree.specs.Choice.{IsUnmixed};
@@ -70,9 +70,7 @@ pub fn present<S: Signer, F: Fn(&Path) -> bool>(
 
     // what stays
     ensures unasked { ask.now.binding ≡ None → signer.new ≡ signer.old }
-    ensures same_good { Agree (S.good signer.new) (S.good signer.old) }
-    ensures same_alg { S.alg_name_of signer.new ≡ S.alg_name_of signer.old }
-    ensures later { S.faults signer.old ≤ S.faults signer.new }
+    ensures kept { IsSameSigner S.good S.alg_name_of S.faults signer.old signer.new }
 
     // the look-ups
     ensures counted { IfOk result
@@ -132,9 +130,7 @@ fn present_token<S: Signer, F: Fn(&Path) -> bool>(
     ensures failed { IsErrOf result PresentError.SignFailed
         → Rose (S.faults signer.old) (S.faults signer.new) }
     ensures unasked { ask.now.binding ≡ None → signer.new ≡ signer.old }
-    ensures same_good { Agree (S.good signer.new) (S.good signer.old) }
-    ensures same_alg { S.alg_name_of signer.new ≡ S.alg_name_of signer.old }
-    ensures later { S.faults signer.old ≤ S.faults signer.new }
+    ensures kept { IsSameSigner S.good S.alg_name_of S.faults signer.old signer.new }
     ensures counted { IfOk result (λ _. IsCounted token.now steps.old steps.new) }
     ensures within { IsCountedWithin token.now steps.old steps.new }
     ensures uncounted { IsUncounted (TokenFails token.now (held_rules ask.now.keys)) steps.old

@@ -1,12 +1,12 @@
 // Presenting in two steps, where the caller checks the issuer's signature and makes the holder's.
-ghost use Rattle.std.specs.Prelude.{◌≡◌, ◌⊎◌, ◌≤◌, ◌<◌, ◌-◌, ◌^◌, true, None, length, option_map, IfOk, OnOk, IfErr, IsErrOf};
+ghost use Rattle.std.specs.Prelude.{◌≡◌, ◌⊎◌, ◌<◌, ◌-◌, ◌^◌, true, None, length, option_map, IfOk, OnOk, IfErr, IsErrOf};
 ghost use Rattle.std.specs.Option.{is_some};
 ghost use Rattle.sd_outside.specs.Causes.{Rose};
 ghost use Rattle.sd_outside.specs.Limits.{compact_max};
 ghost use Rattle.compact_form.specs.Compact.{AreWords, compact as compact_text};
 ghost use Rattle.refusals.specs.Lowest.{IsLowest};
 ghost use Rattle.compact_form.specs.declared.parts.Parts.{Parts as SeenParts};
-ghost use Rattle.hmac_sign.specs.Agreement.{Agree};
+ghost use Rattle.hmac_sign.specs.Agreement.{IsSameSigner};
 ghost use Rattle.json_form.specs.Token.{IsToken};
 ghost use Rattle.json_form.specs.declared.token.Token.{Token as SeenToken};
 ghost use Rattle.verifier_core.specs.Verdict.{TokenFails};
@@ -120,9 +120,7 @@ impl UnsignedPresentation {
         ensures refused { IfErr result (IsUnsent self (S.good signer.old)) }
         ensures failed { IsErrOf result PresentError.SignFailed
             → Rose (S.faults signer.old) (S.faults signer.new) }
-        ensures same_good { Agree (S.good signer.new) (S.good signer.old) }
-        ensures same_alg { S.alg_name_of signer.new ≡ S.alg_name_of signer.old }
-        ensures later { S.faults signer.old ≤ S.faults signer.new }
+        ensures kept { IsSameSigner S.good S.alg_name_of S.faults signer.old signer.new }
     {
         let token = match self.binding.sign(alloc, signer) {
             Ok(token) => token,

@@ -5,7 +5,7 @@ ghost use Rattle.claim_tree.specs.Tree.{depth as depth_of};
 ghost use Rattle.claim_tree.specs.View.{tree_of};
 ghost use Rattle.sd_outside.specs.Limits.{count_max, issue_max, json_depth_max};
 ghost use Rattle.compact_form.specs.Compact.{compact, AreWords};
-ghost use Rattle.hmac_sign.specs.Agreement.{Agree};
+ghost use Rattle.hmac_sign.specs.Agreement.{IsSameSigner};
 ghost use Rattle.issuer_core.specs.declared.errors.IssueError.{IssueError};
 ghost use Rattle.issuer_core.specs.Order.{order_of};
 ghost use Rattle.issuer_core.specs.Seed.{maker_of};
@@ -59,9 +59,7 @@ pub fn issue<S: Signer>(
         → Rose (S.faults signer.old) (S.faults signer.new) }
 
     // what stays
-    ensures same_good { Agree (S.good signer.new) (S.good signer.old) }
-    ensures same_alg { S.alg_name_of signer.new ≡ S.alg_name_of signer.old }
-    ensures later { S.faults signer.old ≤ S.faults signer.new }
+    ensures kept { IsSameSigner S.good S.alg_name_of S.faults signer.old signer.new }
 {
     let order = order.copy(alloc)?;
     issue_owned(alloc, order, seed, signer)
@@ -94,9 +92,7 @@ pub fn issue_owned<S: Signer>(
         → Rose (S.faults signer.old) (S.faults signer.new) }
 
     // what stays
-    ensures same_good { Agree (S.good signer.new) (S.good signer.old) }
-    ensures same_alg { S.alg_name_of signer.new ≡ S.alg_name_of signer.old }
-    ensures later { S.faults signer.old ≤ S.faults signer.new }
+    ensures kept { IsSameSigner S.good S.alg_name_of S.faults signer.old signer.new }
 {
     let token = match to_sign(alloc, order, seed, signer.alg_name()) {
         Ok(token) => token,

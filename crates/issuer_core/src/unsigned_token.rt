@@ -3,7 +3,7 @@ ghost use Rattle.std.specs.Prelude.{◌≡◌, ◌<◌, ◌≤◌, length, None,
 ghost use Rattle.sd_outside.specs.Causes.{Rose};
 ghost use Rattle.sd_outside.specs.Limits.{issue_max};
 ghost use Rattle.compact_form.specs.Compact.{compact, AreWords};
-ghost use Rattle.hmac_sign.specs.Agreement.{Agree};
+ghost use Rattle.hmac_sign.specs.Agreement.{IsSameSigner};
 ghost use Rattle.issuer_core.specs.ToSign.{AreUnsignedWords, IsTokenWith, IsTokenBy, IsTokenTooLong, IsTokenUnmade};
 ghost use Rattle.issuer_core.specs.declared.errors.IssueError.{IssueError};
 
@@ -43,9 +43,7 @@ impl UnsignedToken {
             → Rose (S.faults signer.old) (S.faults signer.new) }
 
         // what stays
-        ensures same_good { Agree (S.good signer.new) (S.good signer.old) }
-        ensures same_alg { S.alg_name_of signer.new ≡ S.alg_name_of signer.old }
-        ensures later { S.faults signer.old ≤ S.faults signer.new }
+        ensures kept { IsSameSigner S.good S.alg_name_of S.faults signer.old signer.new }
     {
         let signed = match self.jwt.sign(alloc, signer) {
             Ok(signed) => signed,

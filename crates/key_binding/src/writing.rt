@@ -1,5 +1,5 @@
 // The call that writes a key binding token.
-ghost use Rattle.std.specs.Prelude.{◌≡◌, ◌≤◌, IfOk, OnOk, IsErrOf};
+ghost use Rattle.std.specs.Prelude.{◌≡◌, IfOk, OnOk, IsErrOf};
 ghost use Rattle.sd_outside.specs.Causes.{Rose};
 ghost use Rattle.b64url_text.specs.Base64url.{IsWord, b64};
 ghost use Rattle.claim_tree.specs.Tree.{object, no_members, inserted};
@@ -8,7 +8,7 @@ ghost use Rattle.claim_tree.specs.View.{tree_of};
 ghost use Rattle.jws_part.specs.Header.{IsHeader, header_members, text_tree};
 ghost use Rattle.jws_part.specs.Part.{IsBody};
 ghost use Rattle.compact_form.specs.Compact.{HasWords};
-ghost use Rattle.hmac_sign.specs.Agreement.{Agree};
+ghost use Rattle.hmac_sign.specs.Agreement.{IsSameSigner};
 ghost use Rattle.key_binding.specs.Binding.{IsBinding, IsUnsignedBinding, IsReadBack, AreReadBack, claims_for, claim_members, binding_header};
 ghost use Rattle.key_binding.specs.declared.errors.BindError.{BindError};
 
@@ -127,9 +127,7 @@ pub fn bind<S: Signer>(
         → Rose (S.faults signer.old) (S.faults signer.new) }
 
     // what stays
-    ensures same_good { Agree (S.good signer.new) (S.good signer.old) }
-    ensures same_alg { S.alg_name_of signer.new ≡ S.alg_name_of signer.old }
-    ensures later { S.faults signer.old ≤ S.faults signer.new }
+    ensures kept { IsSameSigner S.good S.alg_name_of S.faults signer.old signer.new }
 {
     let unsigned = match unsigned_binding(alloc, signer.alg_name(), hash, hashed, aud, nonce, iat) {
         Ok(unsigned) => unsigned,
