@@ -3,7 +3,7 @@
 
     python3 docs/facts.py        status 1 where something differs
 
-The numbers and names of conditions and refusals are those of one table, `Condition` and `Refusal` of compact_form,
+The numbers and names of conditions and refusals are those of one table, `Condition` and `Refusal` of refusals,
 wherever a document, a script, a test or a vector says them; docs/SPECIFICATION.md, docs/REFUSALS.md, refusals.json of
 the Python package and tests/reference have each. The limits are those of `Limits` of sd_outside, the words of commands
 those of `Command`, `Forms` and the tools, and the members of files those of their tables. A name of code in a page for
@@ -68,7 +68,7 @@ def number(text):
 
 def rows():
     """The name of each number, in their order."""
-    both = specs("compact_form", "Condition") + specs("compact_form", "Refusal")
+    both = specs("refusals", "Condition") + specs("refusals", "Refusal")
     return {int(no): name for no, name in re.findall(r'^\w+_row \S+ = \((\d+), codes "(\w+)"\)$', both, re.M)}
 
 
@@ -96,7 +96,7 @@ def check_numbers():
     for page in PAGES:
         text = page.read_text(encoding="utf-8")
         for count in re.findall(r"(?<!first )\b(\d+) (?:stated )?conditions\b", text):
-            if page.name != "CHANGELOG.md" and int(count) != specs("compact_form", "Condition").count("codes \""):
+            if page.name != "CHANGELOG.md" and int(count) != specs("refusals", "Condition").count("codes \""):
                 yield f"{page.relative_to(TOP)} says that there are {count} conditions"
     others = [path for folder in FOLDERS for path in sorted((TOP / folder).glob("**/*")) if path.suffix in SUFFIXES]
     for path in dict.fromkeys(PAGES + [path for path in others if path.is_file() and "out" not in path.parts]):
