@@ -2,6 +2,7 @@ pub mod Algs
 pub mod CodeLengths
 pub mod Hmac
 pub mod Codes
+pub mod Begun
 pub mod Signatures
 pub mod FailState
 pub mod Keys

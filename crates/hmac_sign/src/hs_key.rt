@@ -1,10 +1,15 @@
 // Keys for HS256, HS384 and HS512.
 ghost use Rattle.std.specs.Prelude.{◌≡◌, ◌<◌, ◌≤◌, ◌↔◌, length, IfOk, IfErr, IsTrue};
-ghost use Rattle.hmac_sign.specs.Algs.{key_least, alg_text};
+ghost use Rattle.hmac_sign.specs.Algs.{block_length, key_least, alg_text};
 ghost use Rattle.hmac_sign.specs.CodeLengths.{code_length};
-ghost use Rattle.hmac_sign.specs.Hmac.{alg_key, mac as mac_of, IsGood, IsGoodText};
+ghost use Rattle.hmac_sign.specs.Codes.{IsHashing};
+ghost use Rattle.hmac_sign.specs.Hmac.{alg_key, mac as mac_of, xored, IsGood, IsGoodText};
 
-use crate::keyed_hash::{BLOCK_MAX, are_equal, inner_hasher, key_block, outer_hash};
+use crate::begun::Begun;
+use crate::hasher::Hasher;
+use crate::keyed_hash::{
+    BLOCK_MAX, INNER_PAD, OUTER_PAD, are_equal, code_over, key_block, padded_hasher,
+};
 use crate::{Alg, Checker, Mac, SignError, Signatures, Signer};
 use b64url_text::{DecodeError, decode};
 use sd_outside::{ByteBox, NoMemory};
@@ -21,16 +26,21 @@ pub struct KeyShort;
 pub struct HsKey {
     alg: Alg,
     block: [u8; BLOCK_MAX],
+    // For HS256, by which nearly all tokens are signed.
+    begun: Option<Begun>,
 }
 
 impl Model for HsKey {
     ghost use Rattle.std.specs.Prelude.{take};
     ghost use Rattle.hmac_sign.specs.Algs.{block_length};
+    ghost use Rattle.hmac_sign.specs.Begun.{AreBegun};
     ghost use Rattle.hmac_sign.specs.Hmac.{AlgKey};
 
     ghost Value = { AlgKey };
 
     ghost view = { λ key. record { alg = key.alg; block = take (block_length key.alg) key.block } };
+
+    ghost invariant = { λ key. AreBegun key.begun key.alg (take (block_length key.alg) key.block) };
 }
 
 impl HsKey {
@@ -43,10 +53,12 @@ impl HsKey {
         if key.len() < alg.key_min() {
             return Err(KeyShort);
         }
-        Ok(HsKey {
-            alg,
-            block: key_block(alg, key),
-        })
+        let block = key_block(alg, key);
+        let begun = match alg {
+            Alg::Hs256 => Some(Begun::new(&block)),
+            Alg::Hs384 | Alg::Hs512 => None,
+        };
+        Ok(HsKey { alg, block, begun })
     }
 
     /// The algorithm that it was made for.
@@ -61,11 +73,24 @@ impl HsKey {
         ensures code { result ≡ mac_of self.now head.now body.now }
         ensures long { length result ≡ code_length self.now.alg }
     {
-        let inner = inner_hasher(self.alg, &self.block)
-            .with(head.as_bytes())
-            .with(b".")
-            .with(body.as_bytes());
-        outer_hash(self.alg, &self.block, &inner.finish())
+        let (inner, outer) = self.hashers();
+        let inner = inner.with(head.as_bytes()).with(b".").with(body.as_bytes());
+        code_over(inner, outer)
+    }
+
+    // The inner and the outer hash, each behind its padded block.
+    fn hashers(&self) -> (Hasher, Hasher)
+        ensures inner { IsHashing result.0 self.now.alg (xored self.now.block 0x36) }
+        ensures outer { IsHashing result.1 self.now.alg (xored self.now.block 0x5c) }
+        ensures whole { length self.now.block ≡ block_length self.now.alg }
+    {
+        match &self.begun {
+            Some(begun) => begun.hashers(),
+            None => (
+                padded_hasher(self.alg, &self.block, INNER_PAD),
+                padded_hasher(self.alg, &self.block, OUTER_PAD),
+            ),
+        }
     }
 
     /// Whether a text is the base64url text of a good signature. One that does not decode is none.

@@ -1,9 +1,10 @@
 // HMAC (RFC 2104) over the hashes of the SHA-2 family.
-ghost use Rattle.std.specs.Prelude.{◌≡◌, ◌↔◌, ◌≤◌, ◌++◌, length, take, IsTrue};
+ghost use Rattle.std.specs.Prelude.{◌≡◌, ◌↔◌, ◌≤◌, ◌++◌, ℕ, List, length, take, IsTrue};
 ghost use Rattle.hmac_sign.specs.Algs.{block_length, hash_by};
 ghost use Rattle.hmac_sign.specs.CodeLengths.{code_length};
 ghost use Rattle.hmac_sign.specs.Codes.{IsHashing};
 ghost use Rattle.hmac_sign.specs.Hmac.{filled as filled_block, hmac as hmac_of, key_block as block_of, xored};
+ghost use Rattle.hmac_sign.specs.declared.alg.Alg.{Alg as Named};
 ghost use Rattle.hmac_sign.specs.declared.alg.Alg.TheVariants.{Hs256};
 
 use crate::hasher::Hasher;
@@ -12,9 +13,9 @@ use crate::{Alg, Mac};
 // The most bytes of a block.
 pub(crate) const BLOCK_MAX: usize = 128;
 
-const INNER_PAD: u8 = 0x36;
+pub(crate) const INNER_PAD: u8 = 0x36;
 
-const OUTER_PAD: u8 = 0x5c;
+pub(crate) const OUTER_PAD: u8 = 0x5c;
 
 // The key, with zeros behind it.
 fn filled(key: &[u8]) -> [u8; BLOCK_MAX]
@@ -37,15 +38,8 @@ pub(crate) fn key_block(alg: Alg, key: &[u8]) -> [u8; BLOCK_MAX]
     }
 }
 
-// A hash of the front of a block, as much as the algorithm has.
-fn front_hasher(alg: Alg, block: &[u8; BLOCK_MAX]) -> Hasher
-    ensures { IsHashing result alg (take (block_length alg) block.now) }
-{
-    Hasher::new(alg, &block[..alg.block_len()])
-}
-
 // The block with this pad on each byte.
-fn padded(block: &[u8; BLOCK_MAX], pad: u8) -> [u8; BLOCK_MAX]
+pub(crate) fn padded(block: &[u8; BLOCK_MAX], pad: u8) -> [u8; BLOCK_MAX]
     ensures { result ≡ xored block.now pad }
 {
     let mut bytes = *block;
@@ -55,21 +49,19 @@ fn padded(block: &[u8; BLOCK_MAX], pad: u8) -> [u8; BLOCK_MAX]
     bytes
 }
 
-// The inner hash, behind the block with the inner pad on each byte. The text is added to it.
-pub(crate) fn inner_hasher(alg: Alg, block: &[u8; BLOCK_MAX]) -> Hasher
-    ensures { IsHashing result alg (xored (take (block_length alg) block.now) INNER_PAD) }
+// The hash of the algorithm, of the block with this pad on each byte. A text is added to it.
+pub(crate) fn padded_hasher(alg: Alg, block: &[u8; BLOCK_MAX], pad: u8) -> Hasher
+    ensures { IsHashing result alg (xored (take (block_length alg) block.now) pad) }
 {
-    front_hasher(alg, &padded(block, INNER_PAD))
+    Hasher::new(alg, &padded(block, pad)[..alg.block_len()])
 }
 
-// The outer hash over the inner one.
-pub(crate) fn outer_hash(alg: Alg, block: &[u8; BLOCK_MAX], inner: &Mac) -> Mac
-    ensures { result
-        ≡ hash_by alg (xored (take (block_length alg) block.now) OUTER_PAD ++ inner.now) }
+// The code of what the inner hash holds, by the outer one.
+pub(crate) fn code_over(inner: Hasher, outer: Hasher) -> Mac
+    ensures { (alg : Named) (pad message : List ℕ) → IsHashing inner alg message
+        → IsHashing outer alg pad → result ≡ hash_by alg (pad ++ hash_by alg message) }
 {
-    front_hasher(alg, &padded(block, OUTER_PAD))
-        .with(inner.bytes())
-        .finish()
+    outer.with(inner.finish().bytes()).finish()
 }
 
 /// The HMAC of a text, RFC 2104, under a key of any length.
@@ -78,8 +70,8 @@ pub fn hmac(alg: Alg, key: &[u8], text: &[u8]) -> Mac
     ensures long { length result ≡ code_length alg }
 {
     let block = key_block(alg, key);
-    let inner = inner_hasher(alg, &block).with(text);
-    outer_hash(alg, &block, &inner.finish())
+    let inner = padded_hasher(alg, &block, INNER_PAD).with(text);
+    code_over(inner, padded_hasher(alg, &block, OUTER_PAD))
 }
 
 /// The HMAC with SHA-256.

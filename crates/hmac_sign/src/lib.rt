@@ -7,6 +7,7 @@
 #![tactic(auto)]
 
 mod alg;
+mod begun;
 mod fail_signer;
 mod file_keys;
 mod hasher;
