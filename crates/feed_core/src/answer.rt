@@ -5,6 +5,7 @@ ghost use Rattle.feed_core.specs.Cut.{last_line};
 ghost use Rattle.feed_core.specs.Feed.{end_line};
 
 use crate::verdict_line::add_verdict;
+use disclosure::DisclosureReader;
 use sd_outside::NoMemory;
 use std::alloc::Global;
 use verifier_core::Policy;
@@ -13,6 +14,7 @@ use verifier_core::Policy;
 // Nothing is kept then.
 pub(crate) fn answer_kept(
     alloc: Global,
+    reader: &mut DisclosureReader,
     policy: &Policy,
     now: u64,
     rest: &mut Vec<u8>,
@@ -26,10 +28,10 @@ pub(crate) fn answer_kept(
     ensures same { OnErr result (string_bytes held.new ≡ string_bytes held.old) }
 {
     if rest.is_empty() {
-        return add_verdict(alloc, policy, now, bytes, held);
+        return add_verdict(alloc, reader, policy, now, bytes, held);
     }
     rest.extend_from_slice(bytes)?;
-    add_verdict(alloc, policy, now, rest.as_slice(), held)?;
+    add_verdict(alloc, reader, policy, now, rest.as_slice(), held)?;
     rest.clear();
     Ok(())
 }
@@ -52,7 +54,8 @@ pub(crate) fn answer_last(
     if rest.is_empty() {
         return Ok(0);
     }
-    add_verdict(alloc, policy, now, rest, held)?;
+    let mut reader = DisclosureReader::new(alloc);
+    add_verdict(alloc, &mut reader, policy, now, rest, held)?;
     Ok(1)
 }
 

@@ -11,6 +11,7 @@ use crate::FeedError;
 use crate::answer::{add_count, answer_kept, answer_last};
 use crate::send::{send, send_full, stop};
 use compact_form::FILE_MAX;
+use disclosure::DisclosureReader;
 use memchr::memchr;
 use sd_outside::{NoMemory, Sink};
 use std::alloc::Global;
@@ -211,9 +212,10 @@ fn answer_ended<O: Sink>(
     ensures later { O.faults out.old ≤ O.faults out.new }
 {
     let mut held = String::new(alloc);
+    let mut reader = DisclosureReader::new(alloc);
     let mut left = piece;
     while let Some((line, more)) = split_line(left) {
-        if let Err(NoMemory) = answer_kept(alloc, policy, now, rest, line, &mut held) {
+        if let Err(NoMemory) = answer_kept(alloc, &mut reader, policy, now, rest, line, &mut held) {
             return Err(stop(&mut held, out));
         }
         *count += 1;

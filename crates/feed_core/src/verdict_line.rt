@@ -8,10 +8,11 @@ ghost use Rattle.feed_core.specs.FeedVerdict.{TellsVerdicts};
 
 use claim_tree::{Tree, write};
 use digest_index::Steps;
+use disclosure::DisclosureReader;
 use refusals::Fault;
 use sd_outside::NoMemory;
 use std::alloc::Global;
-use verifier_core::{Policy, VerifyError, fault_line, verify_payload};
+use verifier_core::{Policy, VerifyError, fault_line, verify_payload_with};
 
 // Adds a line of two parts, whole or not at all.
 fn add_line(held: &mut String, front: &str, text: &str) -> Result<(), NoMemory>
@@ -51,6 +52,7 @@ fn add_refused(alloc: Global, fault: &Fault, held: &mut String) -> Result<(), No
 // Judges a token, under a policy and at a moment, and adds the line of its verdict.
 pub(crate) fn add_verdict(
     alloc: Global,
+    reader: &mut DisclosureReader,
     policy: &Policy,
     now: u64,
     token: &[u8],
@@ -61,7 +63,7 @@ pub(crate) fn add_verdict(
         × (string_bytes held.new ≡ string_bytes held.old ++ text)) }
     ensures same { OnErr result (string_bytes held.new ≡ string_bytes held.old) }
 {
-    match verify_payload(alloc, token, policy, now, &mut Steps::new()) {
+    match verify_payload_with(alloc, reader, token, policy, now, &mut Steps::new()) {
         Ok(payload) => add_accepted(alloc, &payload, held),
         Err(VerifyError::Fault(fault)) => add_refused(alloc, &fault, held),
         Err(VerifyError::Memory) => Err(NoMemory),

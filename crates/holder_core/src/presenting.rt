@@ -29,7 +29,7 @@ use crate::{Ask, PresentError};
 use claim_tree::{Path, PathList, Tree};
 use compact_form::Parts;
 use digest_index::Steps;
-use disclosure::HashAlg;
+use disclosure::{DisclosureReader, HashAlg};
 use hmac_sign::{KeySet, Signer, alg_names};
 use json_form::{Disclosures, TokenError, TokenText, TokenView};
 use key_binding::holder_kid;
@@ -207,7 +207,12 @@ fn read_asked(
     ensures signed { OnOk result (IsSigned token.now.parts.signed token.now.outer asked.now.rules) }
     ensures early { IfErr result (IsSignedOrEarly token.now asked.now.rules) }
 {
-    match Content::read(alloc, token, &asked.rules) {
+    match Content::read(
+        alloc,
+        &mut DisclosureReader::new(alloc),
+        token,
+        &asked.rules,
+    ) {
         Ok(content) => Ok(content),
         Err(error) => Err(PresentError::from(error)),
     }
@@ -255,7 +260,8 @@ fn read_signed<'a>(
         (λ e. OnFault e (IsLowest (TokenFails token.now (asked_rules keys.now algs.now None)))) }
     ensures unopened { IfErr result (λ e. OnFault e IsUnopened) }
 {
-    Content::read(alloc, token, &Rules::of_keys(keys, algs, None))
+    let mut reader = DisclosureReader::new(alloc);
+    Content::read(alloc, &mut reader, token, &Rules::of_keys(keys, algs, None))
 }
 
 /// Judges a token that is held by the conditions 5 to 13, but 8, RFC 9901

@@ -4,6 +4,7 @@
 use claim_tree::{Tree, write};
 use compact_form::{View, print};
 use digest_index::Steps;
+use disclosure::DisclosureReader;
 use issuer_core::{IssueFile, issue_owned, read_order};
 use json_form::{Token, TokenText, TokenView, read_token};
 use sd_outside::TextBox;
@@ -119,7 +120,13 @@ fn content_of(alloc: Global, token: &TokenView<'_>) -> Result<Content, Fail> {
         return Err("too many".into());
     }
     let policy = policy(alloc)?;
-    Ok(Content::read(alloc, token, &policy.rules()).map_err(|_| "refused")?)
+    Ok(Content::read(
+        alloc,
+        &mut DisclosureReader::new(alloc),
+        token,
+        &policy.rules(),
+    )
+    .map_err(|_| "refused")?)
 }
 
 // The look-ups that the check of a token's view takes, and its claims.

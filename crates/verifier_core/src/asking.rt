@@ -23,6 +23,7 @@ use b64url_text::{DecodeError, decode};
 use claim_tree::{Tree, TreeMap};
 use compact_form::JwtView;
 use digest_index::Steps;
+use disclosure::DisclosureReader;
 use json_form::TokenText;
 use jws_part::{Header, HeaderError, read_header};
 use key_binding::{BindingRules, Caller, Holders, SignatureAnswer};
@@ -443,7 +444,8 @@ fn judge_token(
     ensures uncounted { IsUncounted (fails_in case.entry) steps.old steps.new }
 {
     let demands = caller_demands(case);
-    let content = match read_content(alloc, token, &demands) {
+    let mut reader = DisclosureReader::new(alloc);
+    let content = match read_content(alloc, &mut reader, token, &demands) {
         Ok(content) => content,
         Err(error) => return on_content(alloc, case, token, fault_of(error)?),
     };

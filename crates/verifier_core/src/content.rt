@@ -84,9 +84,11 @@ fn judged<T>(processed: Result<T, ProcessError>) -> Result<T, VerifyError>
 impl Content {
     /// Judges a token by the conditions 5 to 13, RFC 9901 section 7.3, and reads what it says. The
     /// header, the signature, the payload and the disclosures are judged in this order, and the
-    /// first condition that fails is answered.
+    /// first condition that fails is answered. A reader that is kept reads many tokens in the same
+    /// memory.
     pub fn read(
         alloc: Global,
+        reader: &mut DisclosureReader,
         token: &TokenView<'_>,
         rules: &Rules<'_>,
     ) -> Result<Content, VerifyError>
@@ -100,7 +102,6 @@ impl Content {
         ensures signed { OnOk result (IsSigned token.now.parts.signed token.now.outer rules.now) }
         ensures early { IfErr result (λ e. OnFault e (IsEarlyOrSigned token.now rules.now)) }
     {
-        let mut reader = DisclosureReader::new(alloc);
         let signed = token.signed();
         if let Err(error) = check_signed(alloc, &mut reader.json, signed, token.outer(), rules) {
             return Err(error);
@@ -109,7 +110,7 @@ impl Content {
             Ok(read) => read,
             Err(error) => return Err(error),
         };
-        let given = match read_given(alloc, &mut reader, hash, token.count(), token.disclosures()) {
+        let given = match read_given(alloc, reader, hash, token.count(), token.disclosures()) {
             Ok(given) => given,
             Err(error) => return Err(error),
         };

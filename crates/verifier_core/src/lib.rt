@@ -32,4 +32,4 @@ pub use policy_version::{AUDIENCES_MAX, PolicyVersion};
 pub use refusals::fault_line;
 pub use rules::{Issuers, Rules};
 pub use token_checking::{Checked, VerifyError, check_token, check_view};
-pub use verdict::{Accepted, verify, verify_payload};
+pub use verdict::{Accepted, verify, verify_payload, verify_payload_with};

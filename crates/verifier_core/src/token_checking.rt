@@ -15,7 +15,7 @@ use crate::{Content, Rules};
 use claim_tree::{Tree, TreeMap};
 use compact_form::View;
 use digest_index::Steps;
-use disclosure::HashAlg;
+use disclosure::{DisclosureReader, HashAlg};
 use hmac_sign::KeySet;
 use json_form::{Token, TokenView};
 use marked_tree::{Marked, strip};
@@ -78,7 +78,8 @@ fn check(
     ensures within { IsCountedWithin token.now steps.old steps.new }
     ensures uncounted { IsUncounted (TokenFails token.now rules.now) steps.old steps.new }
 {
-    let content = match Content::read(alloc, token, rules) {
+    let mut reader = DisclosureReader::new(alloc);
+    let content = match Content::read(alloc, &mut reader, token, rules) {
         Ok(content) => content,
         Err(error) => return Err(error),
     };

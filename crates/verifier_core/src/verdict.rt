@@ -17,6 +17,7 @@ use crate::rules::Demands;
 use crate::{Content, Policy, VerifyError};
 use claim_tree::Tree;
 use digest_index::Steps;
+use disclosure::DisclosureReader;
 use json_form::{TokenError, TokenText};
 use marked_tree::{Marked, strip};
 use refusals::Condition;
@@ -47,6 +48,7 @@ pub(crate) fn read_text<'a>(alloc: Global, text: &'a [u8]) -> Result<TokenText<'
 // The conditions 4 to 13 of a token that is read.
 pub(crate) fn read_content(
     alloc: Global,
+    reader: &mut DisclosureReader,
     token: &TokenText<'_>,
     demands: &Demands<'_>,
 ) -> Result<Content, VerifyError>
@@ -64,12 +66,13 @@ pub(crate) fn read_content(
     if is_binding_missing(&view, demands) {
         return Err(fails(Condition::BindingMissing));
     }
-    Content::read(alloc, &view, &demands.rules)
+    Content::read(alloc, reader, &view, &demands.rules)
 }
 
 // The conditions 1 to 13 of a text.
 fn read<'a>(
     alloc: Global,
+    reader: &mut DisclosureReader,
     text: &'a [u8],
     demands: &Demands<'_>,
 ) -> Result<(TokenText<'a>, Content), VerifyError>
@@ -82,7 +85,7 @@ fn read<'a>(
         Ok(token) => token,
         Err(error) => return Err(error),
     };
-    match read_content(alloc, &token, demands) {
+    match read_content(alloc, reader, &token, demands) {
         Ok(content) => Ok((token, content)),
         Err(error) => Err(error),
     }
@@ -143,6 +146,7 @@ impl Opened for Tree {
 // The verdict on a token file, with what the token is opened to.
 fn judged<T: Opened>(
     alloc: Global,
+    reader: &mut DisclosureReader,
     text: &[u8],
     demands: &Demands<'_>,
     now: u64,
@@ -154,7 +158,7 @@ fn judged<T: Opened>(
     ensures refused { IfErr result (λ e. OnFault e (IsLowest (FailsFor text.now demands.now now))) }
     ensures verdict { IsVerdictFor text.now demands.now now result steps.old steps.new }
 {
-    let (token, content) = match read(alloc, text, demands) {
+    let (token, content) = match read(alloc, reader, text, demands) {
         Ok(read) => read,
         Err(error) => return Err(error),
     };
@@ -194,7 +198,8 @@ pub fn verify(
     ensures refused { IfErr result (λ e. OnFault e (IsLowest (Fails text.now policy.now now))) }
     ensures verdict { IsVerdict text.now policy.now now result steps.old steps.new }
 {
-    judged(alloc, text, &policy.demands(), now, steps)
+    let mut reader = DisclosureReader::new(alloc);
+    judged(alloc, &mut reader, text, &policy.demands(), now, steps)
 }
 
 /// The same, for who needs no marks: the processed payload alone.
@@ -211,5 +216,24 @@ pub fn verify_payload(
     ensures refused { IfErr result (λ e. OnFault e (IsLowest (Fails text.now policy.now now))) }
     ensures verdict { IsVerdict text.now policy.now now result steps.old steps.new }
 {
-    judged(alloc, text, &policy.demands(), now, steps)
+    let mut reader = DisclosureReader::new(alloc);
+    verify_payload_with(alloc, &mut reader, text, policy, now, steps)
+}
+
+/// The same, for who verifies many tokens: a reader that is kept reads them in the same memory.
+pub fn verify_payload_with(
+    alloc: Global,
+    reader: &mut DisclosureReader,
+    text: &[u8],
+    policy: &Policy,
+    now: u64,
+    steps: &mut Steps,
+) -> Result<Tree, VerifyError>
+    ensures accepted { IfOk result
+        (λ payload. IsAcceptedAs text.now policy.now now (tree_of payload)) }
+    ensures bounded { IfOk result (λ payload. IsBounded text.now (tree_of payload)) }
+    ensures refused { IfErr result (λ e. OnFault e (IsLowest (Fails text.now policy.now now))) }
+    ensures verdict { IsVerdict text.now policy.now now result steps.old steps.new }
+{
+    judged(alloc, reader, text, &policy.demands(), now, steps)
 }

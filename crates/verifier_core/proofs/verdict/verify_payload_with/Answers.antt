@@ -1,6 +1,6 @@
 use Rattle.std.proofs.lemmas.Result.{IfOk-weaker}
 use Rattle.verifier_core.proofs.Bounds.{accepted_bounded}
-use Rattle.verifier_core.proofs.verdict.verify_payload.Goals as goal
+use Rattle.verifier_core.proofs.verdict.verify_payload_with.Goals as goal
 
 pub returns-clause-bounded : goal.returns-clause-bounded
 returns-clause-bounded c =
