@@ -24,6 +24,9 @@ IS_INSTALLED = INSTALLED.is_dir() and HERE.name == "bin"
 PAGE = INSTALLED / "REFUSALS.md" if IS_INSTALLED else HERE.parent / "docs/REFUSALS.md"
 CASES = HERE.parent / "examples/refusals/cases.txt"
 PARTS = {"Means": "explanation", "Likely cause": "cause", "What to do": "remedy"}
+# An entry of the page, and what stands between its parts.
+ENTRY = r"^- \*\*([\w ]+)\*\*: (.*(?:\n  .*)*)$|^\| `([A-Za-z_ ]+)` \| ([^|]+) \| ([^|]+) \| ([^|]+) \|$"
+MARKS = r" \*(?:Cause|Remedy):\* "
 # The statuses of the lines that have no number, and how a line is told from others.
 LINES = ((1, r"refused (\d+) ([A-Za-z]+)(?: at (.+))?"), (6, r"unreadable ([12]) ([A-Za-z]+(?: [a-z_]+)?)"),
          (3, r"(unread) (\d+|clock|source)"), (2, r"(usage)"), (4, r"(unwritten)"), (5, r"(memory)"))
@@ -35,24 +38,13 @@ import _detail  # noqa: E402
 
 
 def sections(page):
-    """The text of each entry, by its heading, as `refused 10 badSignature`, `unreadable notJson` or `usage`. An entry of few
-    words is a row of a table, of the reasons why a file is unreadable, and becomes a text of the same form."""
+    """What each entry says, each part in one line, by what it explains: `refused 10 badSignature`, `unreadable notJson` or
+    `usage`. An entry is an element of a list, or a row of the table of the reasons why a file is unreadable."""
     found = {}
-    for section in re.split(r"^(?=##)", page, flags=re.M):
-        heading, _, body = section.partition("\n")
-        if heading.startswith("### "):
-            found[heading[len("### "):]] = body.strip()
-        rows = body.partition("\n| Reason |" + "".join(f" {name} |" for name in PARTS) + "\n")[2]
-        for reason, *cells in re.findall(r"^\| `([^`|]+)` \| ([^|]+) \| ([^|]+) \| ([^|]+) \|$", rows, re.M):
-            texts = [f"- **{name}:** {cell[0].upper()}{cell[1:]}." for name, cell in zip(PARTS, cells)]
-            found["unreadable " + reason] = "\n".join(texts)
+    for heading, body, reason, *cells in re.findall(ENTRY, page, re.M):
+        texts = [f"{cell[0].upper()}{cell[1:]}." for cell in cells] if reason else re.split(MARKS, " ".join(body.split()))
+        found[heading or "unreadable " + reason] = dict(zip(PARTS.values(), texts))
     return found
-
-
-def parts(body):
-    """What an entry says, each part in one line."""
-    texts = re.split(r"^- \*\*([A-Z][a-z ]*):\*\* ", body, flags=re.M)[1:]
-    return {PARTS[name]: " ".join(text.split()) for name, text in zip(texts[::2], texts[1::2]) if name in PARTS}
 
 
 def heading_of(line):
@@ -81,7 +73,7 @@ def as_json(line, entries):
     status, heading, place = heading_of(line)
     number, name = heading.split(" ")[1:] if status == 1 else (None, re.sub("^unreadable ", "", heading))
     told = {"status": status, "number": number and int(number), "name": name, "place": place_of(place)}
-    said = parts(entries.get(heading, ""))
+    said = entries.get(heading, {})
     told.update((part, said.get(part, "")) for part in PARTS.values())
     return status, json.dumps(told, ensure_ascii=False, separators=(",", ":"))
 
@@ -134,9 +126,13 @@ def more_of(heading, name):
     return f"In {name}: {said or 'no such fault is found. Is it another file, or was it changed since?'}"
 
 
-def plain(body):
-    """An entry as paragraphs: its parts are those of a list."""
-    return re.sub(r"^  ", "", re.sub(r"^- ", "\n", body.replace("**", ""), flags=re.M), flags=re.M).strip()
+def filled(text):
+    return textwrap.fill(text, 120, break_long_words=False, break_on_hyphens=False)
+
+
+def plain(said):
+    """An entry as paragraphs, one for each part."""
+    return "\n\n".join(filled(f"{label}: {said[part]}") for label, part in PARTS.items())
 
 
 def tell(wanted, name, entries):
@@ -144,7 +140,7 @@ def tell(wanted, name, entries):
     for number, heading in enumerate(found(wanted, entries)):
         print("\n" * (number > 0) + heading + "\n\n" + plain(entries[heading]))
         if name is not None:
-            print("\n" + textwrap.fill(more_of(heading, name), 120, break_long_words=False, break_on_hyphens=False))
+            print("\n" + filled(more_of(heading, name)))
         elif case_of(heading):
             print("\nIn examples/refusals, sdjwt {} gives:\n  {}".format(*case_of(heading).groups()))
 

@@ -11,7 +11,7 @@ FILE = Path(__file__).resolve().parent / "src/sdjwt/refusals.json"
 
 def entries(page):
     """What the page says of each line with a number, and of each file that is not of its form."""
-    return {heading: explain.parts(body) for heading, body in explain.sections(page).items()
+    return {heading: said for heading, said in explain.sections(page).items()
             if heading.startswith(("refused ", "unreadable "))}
 
 

@@ -12,7 +12,7 @@ import pytest
 
 TOP = Path(__file__).resolve().parent.parent.parent
 PAGE = (TOP / "docs/REFUSALS.md").read_text(encoding="utf-8")
-ENTRIES = re.findall(r"^(?:### (.*)|\| `([A-Za-z_ ]+)` \|.*\|.*\|.*\|)$", PAGE, re.M)
+ENTRIES = re.findall(r"^(?:- \*\*([\w ]+)\*\*: .*|\| `([A-Za-z_ ]+)` \|.*\|.*\|.*\|)$", PAGE, re.M)
 HEADINGS = [heading or f"unreadable {reason}" for heading, reason in ENTRIES]
 LINES = re.findall(r"^[^#\n].* = ([1-6]) (.*)$", (TOP / "examples/refusals/cases.txt").read_text(encoding="utf-8"), re.M)
 POLICY = TOP / "examples/refusals/policy_short_key.json"
@@ -34,7 +34,7 @@ def test_each_entry_is_found_by_its_number_its_name_and_its_line():
     entries = program.sections(PAGE)
     assert list(entries) == HEADINGS and len(HEADINGS) > 90
     for heading in HEADINGS:
-        assert set(program.parts(entries[heading])) == {"explanation", "cause", "remedy"}
+        assert set(entries[heading]) == {"explanation", "cause", "remedy"} and all(entries[heading].values())
         words = heading.split()
         numbered = [words[1], words[2], " ".join(words[1:])] if words[0] == "refused" else []
         for wanted in (heading, *numbered, " ".join(words[words[0] == "unreadable":])):

@@ -11,7 +11,9 @@ Agree good other =
 
 -- what stays of a signer: the same signatures are good, by the same algorithm, and it has failed
 -- at least as often
-pub record IsSameSigner {S : Type 0} (good : S → Meaning) (alg_name : S → Text) (faults : S → ℕ) (old new : S) : Type 0 where
+pub record IsSameSigner
+    {S : Type 0} (good : S → Meaning) (alg_name : S → Text) (faults : S → ℕ) (old new : S)
+    : Type 0 where
   pub same_good : Agree (good new) (good old)
   pub same_alg : alg_name new ≡ alg_name old
   pub later : faults old ≤ faults new
