@@ -444,8 +444,8 @@ fn judge_token(
     ensures uncounted { IsUncounted (fails_in case.entry) steps.old steps.new }
 {
     let demands = caller_demands(case);
-    let mut reader = DisclosureReader::new(alloc);
-    let content = match read_content(alloc, &mut reader, token, &demands) {
+    let read = read_content(alloc, &mut DisclosureReader::new(alloc), token, &demands);
+    let content = match read {
         Ok(content) => content,
         Err(error) => return on_content(alloc, case, token, fault_of(error)?),
     };

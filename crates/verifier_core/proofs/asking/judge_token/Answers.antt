@@ -8,8 +8,8 @@ use Rattle.verifier_core.proofs.Judgements.{where_accepted, not_accepted}
 use Rattle.verifier_core.proofs.JudgeSteps.{at_fault, opened_uncounted, opened_lowest, opened_needed, opened_done, shown_accepted, shown_lowest, shown_opened}
 use Rattle.verifier_core.proofs.asking.judge_token.Goals as goal
 
-pub read_content-requires : goal.read_content-requires
-read_content-requires c = record { few = few c.args.case.text.now c.args.token.now c.requires.token }
+pub read_content-read-requires : goal.read_content-read-requires
+read_content-read-requires c = record { few = few c.args.case.text.now c.args.token.now c.requires.token }
 
 pub returns-in_err-fault_of-in-Err-open_payload-clause-within : goal.returns-in_err-fault_of-in-Err-open_payload-clause-within
 returns-in_err-fault_of-in-Err-open_payload-clause-within c =
