@@ -94,7 +94,7 @@ readers() {
 
 in_code() {
     specs=$top/crates
-    numbered "$specs/compact_form/specs/Condition.antt" "$specs/compact_form/specs/Refusal.antt"
+    numbered "$specs/refusals/specs/Condition.antt" "$specs/refusals/specs/Refusal.antt"
     sed -n 's/^reason [A-Za-z]* = codes "\([A-Za-z]*\)"$/6 \1/p; s/^short_seed .*unreadable 2 \([a-z]*\).*/6 \1/p' \
         "$specs/cli_parts/specs/Lines.antt"
     # the payload of an order may be any value
