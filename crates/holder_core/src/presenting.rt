@@ -207,12 +207,13 @@ fn read_asked(
     ensures signed { OnOk result (IsSigned token.now.parts.signed token.now.outer asked.now.rules) }
     ensures early { IfErr result (IsSignedOrEarly token.now asked.now.rules) }
 {
-    match Content::read(
+    let read = Content::read(
         alloc,
         &mut DisclosureReader::new(alloc),
         token,
         &asked.rules,
-    ) {
+    );
+    match read {
         Ok(content) => Ok(content),
         Err(error) => Err(PresentError::from(error)),
     }
