@@ -637,8 +637,12 @@ SPOILERS: Dict[str, List[Spoiler]] = {
 # Rendering ------------------------------------------------------------------------------------------------------------
 
 def octets(text: str) -> bytes:
-    """The bytes of a text of a recipe."""
-    return text.encode("utf-8", "surrogateescape")
+    """The bytes of a text of a recipe. In it a surrogate stands for a byte that is no UTF-8, or for half of a pair."""
+    try:
+        return text.encode("utf-8", "surrogateescape")
+    except UnicodeEncodeError:
+        return b"".join(one.encode("utf-8", "surrogateescape" if "\udc80" <= one <= "\udcff" else "surrogatepass")
+                        for one in text)
 
 
 def _spoilt(code: str, part: str, recipe: Recipe) -> str:
