@@ -63,7 +63,7 @@ fi
 echo 'With each request for memory refused in turn:'
 "$made/memory" "$here/../examples/walk"
 
-# The programs over OpenSSL, of which docs/C.md shows the calls: one verifies, and the other issues and presents.
+# The programs over OpenSSL that docs/C.md names: one verifies, and the other issues and presents.
 if echo '#include <openssl/evp.h>' | "$CC" -E - >/dev/null 2>&1; then
     # shellcheck disable=SC2086 # words
     for how in '-fsanitize=address,undefined -fno-sanitize-recover=all' ''; do
