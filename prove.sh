@@ -21,11 +21,11 @@ esac
 command -v rt >/dev/null || refuse 'there is no rt on the path: a Rattle kit has to be installed first'
 cd "$top/crates/$crate"
 mkdir -p out
-log=out/prove.log
+log=$PWD/out/prove.log
 start=$(date +%s)
 
-# How many crates are proved side by side: one for each core, of at most four, and 3 GB of memory for each.
-side_by_side() {
+# How many processes share the proof of a crate: one for each core, of at most four, and 3 GB of memory for each.
+share() {
     jobs=4
     cores=$(getconf _NPROCESSORS_ONLN 2>/dev/null || echo 1)
     memory=$(awk '$1 == "MemAvailable:" { print int($2 / 3000000) }' /proc/meminfo 2>/dev/null || echo 1)
@@ -35,35 +35,29 @@ side_by_side() {
     [ "$jobs" -ge 1 ] || jobs=1
 }
 
-# How many crates there are: this one, and those that it stands on. crates.txt lists them lowest first.
-count() {
+# The crates that this one stands on, as crates.txt has them, lowest first, and itself.
+list() {
     awk -F: -v crate="$crate" '
         /^[a-z]/ { split($1, words, " "); name[++count] = words[1]; uses[words[1]] = $2 }
         END {
             wanted[crate] = 1
             for (i = count; i > 0; i--) {
                 if (!(name[i] in wanted)) continue
-                found++
                 used = split(uses[name[i]], words, " ")
                 for (k = 1; k <= used; k++) wanted[words[k]] = 1
             }
-            print found
+            for (i = 1; i <= count; i++) if (name[i] in wanted) print name[i]
         }' "$top/crates.txt"
 }
 
 minutes() { echo $((($(date +%s) - start + 30) / 60)); }
 
-# Says of each crate when it is done: rt then prints its name, and what it said of it.
-follow() {
-    done=0
-    while IFS= read -r line; do
-        printf '%s\n' "$line"
-        case $line in
-            '== summary') ;;
-            '== '*) done=$((done + 1)) && echo "$done of $all: ${line#== } ($(minutes) min)" >&3 ;;
-        esac
-    done >"$log"
-}
+# Proves one crate over those below it, with all processes: side by side they would wait for one another, since most of
+# them stand on the one before. Of a library this makes what the crates above read.
+prove() (
+    cd "$top/crates/$1" || exit
+    if [ "$1" = "$crate" ]; then rt check --jobs "$jobs"; else rt lib --jobs "$jobs"; fi
+) >>"$log" 2>&1
 
 # Builds over what was proved. A program is run once, with no words, and then says `usage`.
 build() {
@@ -76,17 +70,22 @@ build() {
 
 failed() {
     tail -n 20 "$log" >&2
-    refuse "$crate is not $1; all that rt said is in crates/$crate/$log"
+    refuse "$1; all that rt said is in crates/$crate/out/prove.log"
 }
 
-side_by_side
-all=$(count)
-echo "Proving the $all crates of $crate, at most $jobs side by side. From nothing this takes about 25 minutes on four"
-echo "cores; what was proved on this machine before is not proved again."
-exec 3>&1
-{ rt all check --jobs "$jobs" 2>&1 || echo "rt all check ended with status $?"; } | follow
-! tail -n 1 "$log" | grep -q '^rt all check ended' || failed proved
+share
+names=$(list)
+all=$(echo "$names" | wc -l)
+echo "Proving the $all crates of $crate, one after the other, each by $jobs processes. From nothing this takes about 25"
+echo "minutes on four cores; what was proved on this machine before is not proved again."
+: >"$log"
+done=0
+for name in $names; do
+    prove "$name" || failed "$name is not proved"
+    done=$((done + 1))
+    echo "$done of $all: $name ($(minutes) min)"
+done
 echo 'Building.'
-build || failed built
-[ -f "$makes" ] || failed built
+build || failed "$crate is not built"
+[ -f "$makes" ] || failed "$crate is not built"
 echo "Proved and built in $(minutes) min: crates/$crate/$makes"

@@ -164,7 +164,7 @@ def check_words():
 
 
 def check_members():
-    words = re.findall(r'^field_word Field\.(\w+) = codes "(\w+)"', specs("claim_tree", "FileWords"), re.M)
+    words = re.findall(r'^field_word Field\.(\w+) = codes "(\w+)"', specs("file_members", "FileWords"), re.M)
     word_of = dict(words)
     for title, one, crate, module, name in TABLES:
         body = re.search(rf"^{name}(?: \w+)? =(.*?)∷ \[\]$", specs(crate, module), re.M | re.S)[1]

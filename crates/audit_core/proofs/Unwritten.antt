@@ -7,8 +7,7 @@ use Rattle.claim_tree.specs.Tree.{Text, Tree}
 use Rattle.claim_tree.specs.JsonText.{Reads, json_text}
 use Rattle.claim_tree.specs.JsonRefusals.{IsReadRefused}
 use Rattle.claim_tree.specs.declared.text.ReadError.{ReadError}
-use Rattle.claim_tree.proofs.OneTree.{one_tree}
-use Rattle.claim_tree.proofs.FileVerdicts.{is_json, is_whole}
+use Rattle.claim_tree.proofs.OneTree.{one_tree, is_json, is_whole}
 use Rattle.audit_core.specs.Audited.{IsWrittenAs}
 use Rattle.audit_core.specs.AuditSteps.{IsUnwritten}
 

@@ -12,7 +12,7 @@ ghost use Rattle.audit_core.specs.AuditRun.{AuditAnswers, AuditEnds, AuditsFiles
 
 use crate::auditing::audit_owned;
 use crate::{AuditError, refusal_line};
-use cli_parts::{FETCH_MAX, Stop, as_line, fetch_file, finish, readable, tell};
+use cli_parts::{FETCH_MAX, Stop, as_line, fetch_file, end_run, readable, tell};
 use digest_index::Steps;
 use hmac_sign::Signer;
 use issuer_core::{IssueFile, read_order};
@@ -102,5 +102,5 @@ pub fn run_audit<C: Cabinet, O: Sink, E: Sink>(
     let Some((order, token)) = audit_words(words) else {
         return tell(err, "usage\n", Status::Usage);
     };
-    finish(alloc, answer(alloc, cab, order, token), out, err)
+    end_run(alloc, answer(alloc, cab, order, token), out, err)
 }

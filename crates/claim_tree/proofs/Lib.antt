@@ -31,8 +31,7 @@ pub mod PointerRule
 mod Examples
 pub mod MemberNames
 pub mod ObjectTrees
-pub mod FileMembers
-pub mod FileVerdicts
+pub mod TreeValues
 pub mod ListForms
 pub mod SamePaths
 pub mod PathFronts

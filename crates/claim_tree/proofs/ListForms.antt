@@ -1,4 +1,4 @@
--- Lists in files, element by element.
+-- Lists of values, element by element.
 use Rattle.std.proofs.Common.{◌≡◌, ◌≢◌, ℕ, zero, suc, ◌+◌, ◌<◌, List, [], ◌∷◌, ◌++◌, length, get_or, take, refl, sym, ap, subst, ◌∙◌, arith}
 use Rattle.claim_tree.specs.Tree as spec
 use Rattle.claim_tree.specs.Tree.{Text, leaf, text, array, Elements, no_elements, element}
@@ -8,12 +8,10 @@ use Rattle.claim_tree.specs.PointerRefusals.{IsNoPointer}
 use Rattle.claim_tree.specs.View.{tree_of}
 use Rattle.claim_tree.specs.ListViews.{elements_of}
 use Rattle.claim_tree.specs.declared.tree.Tree as tree
-use Rattle.claim_tree.specs.FileForms.{HasValue}
-use Rattle.claim_tree.proofs.FileMembers.{list_inside}
-use Rattle.claim_tree.proofs.FileVerdicts.{SaysOne}
+use Rattle.claim_tree.proofs.TreeValues.{list_inside, SaysOne}
 use Rattle.claim_tree.proofs.PointerTexts.{pointer_text-injective, no_path}
 use Rattle.claim_tree.proofs.Walks.{elements_turn}
-use Rattle.claim_tree.specs.FileLists.{EachSays, IsListOf, IsPointer}
+use Rattle.claim_tree.specs.TreeValues.{HasValue, EachSays, IsListOf, IsPointer}
 
 module _ {X : Type 0} (Is : spec.Tree → X → Type 0) where
   -- a tree that is no list

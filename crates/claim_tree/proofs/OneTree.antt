@@ -1,9 +1,11 @@
--- A text reads to at most one tree.
-use Rattle.std.proofs.Common.{◌≡◌, ℤ, pos, negsuc, refl, sym, ap, ◌∙◌}
+-- A text reads to at most one tree, and one that is refused to none.
+use Rattle.std.proofs.Common.{◌≡◌, ℤ, pos, negsuc, true, false, inl, inr, Some, None, refl, sym, ap, ◌∙◌}
 use Rattle.serde_json.specs.Data as port
 use Rattle.serde_json.specs.Find.{of_integer}
+use Rattle.serde_json.specs.Written.{has_float}
 use Rattle.claim_tree.specs.Tree.{Text, Leaf, null, flag, whole, text, Tree, leaf, array, object, Elements, no_elements, element, Members, no_members, member}
-use Rattle.claim_tree.specs.JsonText.{Reads, leaf_data, data_of, elements_data, members_data}
+use Rattle.claim_tree.specs.JsonText.{Reads, IsNotJson, IsNotWhole, leaf_data, data_of, elements_data, members_data}
+use Rattle.claim_tree.proofs.Datas.{no_float}
 
 one_whole : (y z : ℤ) → of_integer y ≡ of_integer z → y ≡ z
 one_whole (pos m) (pos n) e = cc e
@@ -62,3 +64,19 @@ mutual
 
 pub one_tree : (bytes : Text) (t u : Tree) → Reads bytes t → Reads bytes u → t ≡ u
 one_tree bytes t u r s = data_of-injective t u (let both = sym r.value ∙ s.value in cc both)
+
+pub is_json : (bytes : Text) (t : Tree) → Reads bytes t → IsNotJson bytes → ⊥
+is_json bytes t reads (inl odd) = odd reads.utf8
+is_json bytes t reads (inr none) = let both : Some (data_of t) ≡ None = sym reads.value ∙ none in cc both
+
+pub is_whole : (bytes : Text) (t : Tree) → Reads bytes t → IsNotWhole bytes → ⊥
+is_whole bytes t reads odd =
+    let both : Some (data_of t) ≡ Some odd.data_is = sym reads.value ∙ odd.value in
+    let same : data_of t ≡ odd.data_is = cc both in
+    let clash : true ≡ false = sym odd.float ∙ (sym (ap has_float same) ∙ no_float t) in
+    cc clash
+
+-- a text that is no JSON has no value
+pub one_cause : (bytes : Text) → IsNotJson bytes → IsNotWhole bytes → ⊥
+one_cause bytes (inl odd) whole_is = odd whole_is.utf8
+one_cause bytes (inr none) whole_is = let both : Some whole_is.data_is ≡ None = sym whole_is.value ∙ none in cc both

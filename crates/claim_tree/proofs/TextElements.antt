@@ -1,7 +1,7 @@
 -- A list of texts as a JSON array: its depth, its numbers, its order.
 use Rattle.std.proofs.Common.{◌≡◌, List, [], ◌∷◌, refl, arith}
 use Rattle.claim_tree.specs.Tree.{Text, elements_depth, ElementsRanged, ElementsOrdered}
-use Rattle.claim_tree.specs.FileForms.{text_elements}
+use Rattle.claim_tree.specs.TreeValues.{text_elements}
 
 pub texts_depth : (texts : List Text) → elements_depth (text_elements texts) ≡ 0
 texts_depth [] = refl

@@ -3,16 +3,9 @@ use Rattle.claim_tree.specs.Tree.{Text}
 use Rattle.claim_tree.specs.declared.text.ReadError.{ReadError}
 use Rattle.claim_tree.specs.declared.text.ReadError.TheVariants.{Memory, NotJson, NotWhole}
 use Rattle.claim_tree.specs.JsonText.{IsNotJson, IsNotWhole}
-use Rattle.claim_tree.specs.declared.file_fault.FileFault.{FileFault}
 
 -- why a text is not read
 abbrev pub IsReadRefused : Text → ReadError → Type 0
 IsReadRefused bytes Memory = Unit {0}
 IsReadRefused bytes NotJson = IsNotJson bytes
 IsReadRefused bytes NotWhole = IsNotWhole bytes
-
--- the fault of a file whose text is not read
-abbrev pub unread_fault : ReadError → FileFault
-unread_fault ReadError.Memory = FileFault.Memory
-unread_fault ReadError.NotJson = FileFault.NotJson
-unread_fault ReadError.NotWhole = FileFault.NotWhole

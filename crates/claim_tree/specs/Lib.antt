@@ -9,13 +9,10 @@ pub mod Code
 pub mod Falls
 pub mod MemberPositions
 pub mod Path
-pub mod FileWords
-pub mod FileForms
-pub mod FileLists
+pub mod TreeValues
 pub mod TreeCalls
 pub mod Nodes
 pub mod JsonRefusals
-pub mod FileRefusals
 pub mod PointerRefusals
 pub mod ListViews
 pub mod Steps

@@ -8,9 +8,6 @@
 mod build;
 mod copies;
 mod depths;
-mod file_fault;
-mod file_form;
-mod file_list;
 mod inside;
 mod judge;
 pub mod laws;
@@ -22,16 +19,12 @@ mod tail;
 mod text;
 mod tokens;
 mod tree;
+mod tree_values;
 mod whole;
 mod whole_number;
 
 pub use copies::{copy, copy_members};
 pub use depths::depth;
-pub use file_fault::{Field, FileFault};
-pub use file_form::{
-    read_members, text_list_member, text_member, texts_of, whole_member, whole_up_to,
-};
-pub use file_list::{pointer_list_member, pointer_of};
 pub use inside::{find, find_behind, get, position};
 pub use member_test::{MemberTest, every_member};
 pub use path::{Path, PathList, Steps, copy_paths, digits, is_prefix};
@@ -39,4 +32,5 @@ pub use pointer::{PointerError, print_path, read_pointer};
 pub use tail::{ListTail, TailOrTree};
 pub use text::{JsonReader, ReadError, read, write, write_list};
 pub use tree::{Tree, TreeList, TreeMap};
+pub use tree_values::{pointer_of, pointers_of, texts_of, whole_up_to};
 pub use whole::Whole;

@@ -1,6 +1,6 @@
 -- A command has one reply, where there is one line of each kind and no two kinds apply.
 use Rattle.std.proofs.Common.{◌≡◌, ◌≢◌, ℕ, List, ap, sym, ◌∙◌}
-use Rattle.claim_tree.specs.declared.file_fault.FileFault.{FileFault}
+use Rattle.file_members.specs.declared.file_fault.FileFault.{FileFault}
 use Rattle.refusals.specs.declared.fault.Fault.{Fault}
 use Rattle.cli_parts.specs.Lines.{refusal, unreadable_line}
 use Rattle.cli_parts.specs.Replies.{Reply, Replies, gives, refuses, unreadable}

@@ -1,9 +1,9 @@
 -- The lines on standard error.
 use Rattle.std.specs.Prelude.{◌+◌, ℕ, List, [], ◌∷◌, ◌++◌, codes}
 use Rattle.std.specs.Fmt.{decimal}
-use Rattle.claim_tree.specs.FileWords.{field_word}
-use Rattle.claim_tree.specs.declared.file_fault.FileFault.{FileFault}
-use Rattle.claim_tree.specs.declared.file_fault.FileFault.TheVariants.{Memory, TooLong, NotJson, NotWhole, NotObject, Unknown, Missing, Wrong}
+use Rattle.file_members.specs.FileWords.{field_word}
+use Rattle.file_members.specs.declared.file_fault.FileFault.{FileFault}
+use Rattle.file_members.specs.declared.file_fault.FileFault.TheVariants.{Memory, TooLong, NotJson, NotWhole, NotObject, Unknown, Missing, Wrong}
 use Rattle.refusals.specs.declared.fault.Fault.{Fault}
 use Rattle.refusals.specs.RefusedText.{fault_text}
 

@@ -1,6 +1,6 @@
 -- The line that tells of what is wrong.
 use Rattle.std.specs.Prelude.{◌≡◌, ◌≢◌, ℕ, List}
-use Rattle.claim_tree.specs.declared.file_fault.FileFault.{FileFault}
+use Rattle.file_members.specs.declared.file_fault.FileFault.{FileFault}
 use Rattle.refusals.specs.declared.fault.Fault.{Fault}
 use Rattle.cli_parts.specs.Lines.{refusal, unreadable_line}
 

@@ -14,4 +14,4 @@ pub use host::{Ending, exit_code, seconds, words};
 pub use lines::{as_line, refusal_line, short_seed_line, unreadable_line};
 pub use policy_file::policy_of;
 pub use stop::{Stop, readable, refused};
-pub use telling::{finish, tell, tell_stop};
+pub use telling::{end_run, tell, tell_stop};

@@ -2,7 +2,7 @@
 ghost use Rattle.std.specs.Prelude.{◌≡◌, IfOk, string_bytes};
 ghost use Rattle.cli_parts.specs.Lines.{line, reason as reason_of, refusal, short_seed, unreadable_line as line_of};
 
-use claim_tree::FileFault;
+use file_members::FileFault;
 use refusals::{Fault, fault_line};
 use sd_outside::{NoMemory, TextBox};
 use std::alloc::Global;

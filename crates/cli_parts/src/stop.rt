@@ -1,13 +1,13 @@
 // Why a command has no answer.
 ghost use Rattle.std.specs.Prelude.{◌≡◌, ◌≢◌, Ok, Err, IfOk, IfErr};
-ghost use Rattle.claim_tree.specs.declared.file_fault.FileFault.{FileFault};
+ghost use Rattle.file_members.specs.declared.file_fault.FileFault.{FileFault};
 ghost use Rattle.cli_parts.specs.Lines.{refusal, unreadable_line as line_of};
 ghost use Rattle.cli_parts.specs.Stops.{OnRefused, OnUnreadable, NotRefused, NotUnread, NotUnreadable};
 ghost use Rattle.cli_parts.specs.Telling.{TellsFileFault};
 ghost use Rattle.cli_parts.specs.declared.stop.Stop.TheVariants.{Memory};
 
 use crate::lines::{refusal_line, unreadable_line};
-use claim_tree::FileFault;
+use file_members::FileFault;
 use refusals::Fault;
 use sd_outside::NoMemory;
 use std::alloc::Global;

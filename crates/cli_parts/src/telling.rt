@@ -57,7 +57,7 @@ pub fn tell_stop<E: Sink>(alloc: Global, stop: Stop, err: &mut E) -> Status
 
 /// Ends a run: its answer goes to `out` in one piece, or the line that tells
 /// why there is none to `err`.
-pub fn finish<O: Sink, E: Sink>(
+pub fn end_run<O: Sink, E: Sink>(
     alloc: Global,
     answer: Result<String, Stop>,
     out: &mut O,

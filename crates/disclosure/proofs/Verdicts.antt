@@ -7,8 +7,7 @@ use Rattle.b64url_text.specs.Base64url.{Decodes}
 use Rattle.b64url_text.proofs.Codes.{one_code}
 use Rattle.claim_tree.specs.Tree.{Text, Tree}
 use Rattle.claim_tree.specs.JsonText.{Reads, IsNotJson, IsNotWhole, data_of}
-use Rattle.claim_tree.proofs.OneTree.{one_tree}
-use Rattle.claim_tree.proofs.FileVerdicts.{is_whole}
+use Rattle.claim_tree.proofs.OneTree.{one_tree, is_whole}
 use Rattle.disclosure.specs.Disclosure.{array_of, IsDisclosure}
 use Rattle.disclosure.specs.DisclosureRefusals.{DecodesTo, IsDisclosureRefused}
 use Rattle.disclosure.proofs.Arrays.{array_of-injective}

@@ -5,8 +5,8 @@ use Rattle.b64url_text.proofs.Codes.{one_code}
 use Rattle.claim_tree.specs.Tree.{Text, leaf, text}
 use Rattle.claim_tree.specs.View.{tree_of}
 use Rattle.claim_tree.specs.declared.tree.Tree as tree
-use Rattle.claim_tree.specs.FileForms.{HasValue}
-use Rattle.claim_tree.proofs.FileVerdicts.{SaysOne}
+use Rattle.claim_tree.specs.TreeValues.{HasValue}
+use Rattle.claim_tree.proofs.TreeValues.{SaysOne}
 use Rattle.hmac_sign.specs.Hmac.{key_block}
 use Rattle.hmac_sign.specs.KeyText.{IsKeyBytes, IsKeyText}
 use Rattle.hmac_sign.specs.declared.alg.Alg.{Alg}

@@ -1,14 +1,16 @@
 // The text of a key, and a set of keys, as the files that a command reads have them.
 ghost use Rattle.std.specs.Prelude.{◌<◌, IfOk, IfErr, IfSome, IfNone};
 ghost use Rattle.claim_tree.specs.View.{tree_of};
-ghost use Rattle.claim_tree.specs.FileForms.{HasValue, Says, required, found};
-ghost use Rattle.claim_tree.specs.FileRefusals.{IsMemberRefused};
+ghost use Rattle.claim_tree.specs.TreeValues.{HasValue, Says};
+ghost use Rattle.file_members.specs.FileForms.{required, found};
+ghost use Rattle.file_members.specs.FileRefusals.{IsMemberRefused};
 ghost use Rattle.hmac_sign.specs.KeyText.{IsKeyBytes, IsKeyText};
 ghost use Rattle.hmac_sign.specs.Keys.{IsKeySet};
 
 use crate::{Alg, Hs256Key, KeySet, KeySetError};
 use b64url_text::{DecodeError, decode};
-use claim_tree::{Field, FileFault, Tree, TreeMap};
+use claim_tree::{Tree, TreeMap};
+use file_members::{Field, FileFault};
 use sd_outside::{ByteBox, NoMemory};
 use std::alloc::Global;
 

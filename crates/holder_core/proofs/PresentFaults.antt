@@ -2,12 +2,12 @@
 use Rattle.std.proofs.Common.{List, [], take, drop}
 use Rattle.sd_outside.specs.Limits.{file_max}
 use Rattle.claim_tree.specs.Tree.{Text, Members}
-use Rattle.claim_tree.specs.FileForms.{Says, SaysOr, required, optional, fields_of, found, HasMembers}
-use Rattle.claim_tree.specs.FileLists.{IsListOf, IsPointer}
-use Rattle.claim_tree.specs.FileRefusals.{IsMemberRefused}
-use Rattle.claim_tree.specs.declared.file_fault.Field.TheVariants.{Keys, Want, Never, Binding}
-use Rattle.claim_tree.specs.declared.file_fault.FileFault.{FileFault}
-use Rattle.claim_tree.proofs.FileMembers.{says_meets, says_or_meets, member_refused}
+use Rattle.claim_tree.specs.TreeValues.{Says, SaysOr, IsListOf, IsPointer}
+use Rattle.file_members.specs.FileForms.{required, optional, fields_of, found, HasMembers}
+use Rattle.file_members.specs.FileRefusals.{IsMemberRefused}
+use Rattle.file_members.specs.declared.field.Field.TheVariants.{Keys, Want, Never, Binding}
+use Rattle.file_members.specs.declared.file_fault.FileFault.{FileFault}
+use Rattle.file_members.proofs.FileMembers.{says_meets, says_or_meets, member_refused}
 use Rattle.hmac_sign.specs.Keys.{IsKeySet}
 use Rattle.hmac_sign.specs.declared.key_set.NamedKey.{NamedKey}
 use Rattle.holder_core.specs.PresentFile.{IsBindingOrder, present_table, IsPresentFileRefused}

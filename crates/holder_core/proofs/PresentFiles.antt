@@ -3,17 +3,18 @@ use Rattle.std.proofs.Common.{◌≡◌, ◌≢◌, ℕ, List, [], Option, Some,
 use Rattle.std.specs.Prelude.{is_some}
 use Rattle.sd_outside.specs.Limits.{file_max}
 use Rattle.claim_tree.specs.Tree.{Text, object, member_named}
-use Rattle.claim_tree.specs.FileForms.{IsText, Says, MaySay, SaysOr, found}
-use Rattle.claim_tree.specs.declared.file_fault.Field.TheVariants.{Keys, Want, Never, Binding}
-use Rattle.claim_tree.specs.declared.file_fault.FileFault.{FileFault}
-use Rattle.claim_tree.proofs.FileMembers.{says_meets, may_say_meets, says_or_meets}
-use Rattle.claim_tree.proofs.FileVerdicts as verdicts
-use Rattle.claim_tree.proofs.FileVerdicts.{SaysOne}
+use Rattle.claim_tree.specs.TreeValues.{IsText, Says, MaySay, SaysOr, IsListOf, IsPointer}
+use Rattle.file_members.specs.FileForms.{found}
+use Rattle.file_members.specs.declared.field.Field.TheVariants.{Keys, Want, Never, Binding}
+use Rattle.file_members.specs.declared.file_fault.FileFault.{FileFault}
+use Rattle.file_members.proofs.FileMembers.{says_meets, may_say_meets, says_or_meets}
+use Rattle.claim_tree.proofs.TreeValues as values
+use Rattle.file_members.proofs.FileVerdicts as verdicts
+use Rattle.claim_tree.proofs.TreeValues.{SaysOne}
 use Rattle.hmac_sign.specs.Keys.{IsKeySet}
 use Rattle.hmac_sign.specs.declared.key_set.NamedKey.{NamedKey}
 use Rattle.hmac_sign.proofs.KeySetVerdicts.{one_key_set}
 use Rattle.key_binding.specs.ShortText.{IsShortText}
-use Rattle.claim_tree.specs.FileLists.{IsListOf, IsPointer}
 use Rattle.hmac_sign.specs.KeyText.{IsKeyText}
 use Rattle.verifier_core.proofs.PolicyVersions.{one_short_text}
 use Rattle.holder_core.specs.PresentFile.{BindingSaid, IsBindingOrder, both, present_table, IsPresentFile, IsPresentFileRefused}
@@ -31,10 +32,10 @@ one_binding t b d h k =
     let objects : object h.members ≡ object k.members = sym h.is ∙ k.is in
     let same : h.members ≡ k.members = cc objects in
     let ms = k.members in
-    let key : b.1 ≡ d.1 = verdicts.says_one IsKeyText (member_named ms (codes "key")) b.1 d.1 one_key_text (subst (λ ns. Says IsKeyText (member_named ns (codes "key")) b.1) same h.key) k.key in
-    let kid : b.0.kid ≡ d.0.kid = verdicts.says_one IsText (member_named ms (codes "kid")) b.0.kid d.0.kid verdicts.one_text (subst (λ ns. Says IsText (member_named ns (codes "kid")) b.0.kid) same h.kid) k.kid in
-    let aud : b.0.aud ≡ d.0.aud = verdicts.says_one IsShortText (member_named ms (codes "aud")) b.0.aud d.0.aud one_short_text (subst (λ ns. Says IsShortText (member_named ns (codes "aud")) b.0.aud) same h.aud) k.aud in
-    let nonce : b.0.nonce ≡ d.0.nonce = verdicts.says_one IsShortText (member_named ms (codes "nonce")) b.0.nonce d.0.nonce one_short_text (subst (λ ns. Says IsShortText (member_named ns (codes "nonce")) b.0.nonce) same h.nonce) k.nonce in
+    let key : b.1 ≡ d.1 = values.says_one IsKeyText (member_named ms (codes "key")) b.1 d.1 one_key_text (subst (λ ns. Says IsKeyText (member_named ns (codes "key")) b.1) same h.key) k.key in
+    let kid : b.0.kid ≡ d.0.kid = values.says_one IsText (member_named ms (codes "kid")) b.0.kid d.0.kid values.one_text (subst (λ ns. Says IsText (member_named ns (codes "kid")) b.0.kid) same h.kid) k.kid in
+    let aud : b.0.aud ≡ d.0.aud = values.says_one IsShortText (member_named ms (codes "aud")) b.0.aud d.0.aud one_short_text (subst (λ ns. Says IsShortText (member_named ns (codes "aud")) b.0.aud) same h.aud) k.aud in
+    let nonce : b.0.nonce ≡ d.0.nonce = values.says_one IsShortText (member_named ms (codes "nonce")) b.0.nonce d.0.nonce one_short_text (subst (λ ns. Says IsShortText (member_named ns (codes "nonce")) b.0.nonce) same h.nonce) k.nonce in
     ap (λ x. binding_made x b.0.aud b.0.nonce b.1) kid
     ∙ (ap (λ x. binding_made d.0.kid x b.0.nonce b.1) aud ∙ (ap (λ x. binding_made d.0.kid d.0.aud x b.1) nonce ∙ ap (λ x. binding_made d.0.kid d.0.aud d.0.nonce x) key))
 
@@ -63,11 +64,11 @@ unfolding made
 one_present bytes p q h k =
     let same : h.members ≡ k.members = verdicts.one_object file_max bytes h.members k.members h.file.object k.file.object in
     let ms = k.members in
-    let keys : p.ask.keys ≡ q.ask.keys = verdicts.says_one IsKeySet (found ms Keys) p.ask.keys q.ask.keys one_key_set (subst (λ ns. Says IsKeySet (found ns Keys) p.ask.keys) same h.keys) k.keys in
-    let want : p.ask.want ≡ q.ask.want = verdicts.says_or_one (IsListOf IsPointer) [] (found ms Want) p.ask.want q.ask.want (one_list IsPointer one_pointer) (subst (λ ns. SaysOr (IsListOf IsPointer) [] (found ns Want) p.ask.want) same h.want) k.want in
-    let never : p.never ≡ q.never = verdicts.says_or_one (IsListOf IsPointer) [] (found ms Never) p.never q.never (one_list IsPointer one_pointer) (subst (λ ns. SaysOr (IsListOf IsPointer) [] (found ns Never) p.never) same h.never) k.never in
+    let keys : p.ask.keys ≡ q.ask.keys = values.says_one IsKeySet (found ms Keys) p.ask.keys q.ask.keys one_key_set (subst (λ ns. Says IsKeySet (found ns Keys) p.ask.keys) same h.keys) k.keys in
+    let want : p.ask.want ≡ q.ask.want = values.says_or_one (IsListOf IsPointer) [] (found ms Want) p.ask.want q.ask.want (one_list IsPointer one_pointer) (subst (λ ns. SaysOr (IsListOf IsPointer) [] (found ns Want) p.ask.want) same h.want) k.want in
+    let never : p.never ≡ q.never = values.says_or_one (IsListOf IsPointer) [] (found ms Never) p.never q.never (one_list IsPointer one_pointer) (subst (λ ns. SaysOr (IsListOf IsPointer) [] (found ns Never) p.never) same h.never) k.never in
     let said : both p.ask.binding p.key ≡ both q.ask.binding q.key =
-    verdicts.may_say_one IsBindingOrder (found ms Binding) (both p.ask.binding p.key) (both q.ask.binding q.key) one_binding
+    values.may_say_one IsBindingOrder (found ms Binding) (both p.ask.binding p.key) (both q.ask.binding q.key) one_binding
     (subst (λ ns. MaySay IsBindingOrder (found ns Binding) (both p.ask.binding p.key)) same h.binding)
     k.binding in
     let parts = parts_of p.ask.binding q.ask.binding p.key q.key h.together k.together said in

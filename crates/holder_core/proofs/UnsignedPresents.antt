@@ -2,15 +2,16 @@
 use Rattle.std.proofs.Common.{◌≡◌, ◌≢◌, List, [], take, drop, Option, sym, subst, ap, ◌∙◌, codes}
 use Rattle.sd_outside.specs.Limits.{file_max}
 use Rattle.claim_tree.specs.Tree.{Text, object, Members, member_named}
-use Rattle.claim_tree.specs.FileForms.{IsText, IsTexts, Says, MaySay, SaysOr, required, optional, fields_of, found, HasMembers, MemberFails, missing, wrong}
-use Rattle.claim_tree.specs.FileLists.{IsListOf, IsPointer}
-use Rattle.claim_tree.specs.FileRefusals.{IsMemberRefused}
-use Rattle.claim_tree.specs.declared.file_fault.Field.TheVariants.{Algs, Want, Never, Binding}
-use Rattle.claim_tree.specs.declared.file_fault.FileFault.{FileFault}
-use Rattle.claim_tree.specs.declared.file_fault.FileFault.TheVariants.{Memory}
-use Rattle.claim_tree.proofs.FileMembers.{says_meets, may_say_meets, says_or_meets, member_refused}
-use Rattle.claim_tree.proofs.FileVerdicts as verdicts
-use Rattle.claim_tree.proofs.FileVerdicts.{SaysOne}
+use Rattle.claim_tree.specs.TreeValues.{IsText, IsTexts, Says, MaySay, SaysOr, IsListOf, IsPointer}
+use Rattle.file_members.specs.FileForms.{required, optional, fields_of, found, HasMembers, MemberFails, missing, wrong}
+use Rattle.file_members.specs.FileRefusals.{IsMemberRefused}
+use Rattle.file_members.specs.declared.field.Field.TheVariants.{Algs, Want, Never, Binding}
+use Rattle.file_members.specs.declared.file_fault.FileFault.{FileFault}
+use Rattle.file_members.specs.declared.file_fault.FileFault.TheVariants.{Memory}
+use Rattle.file_members.proofs.FileMembers.{says_meets, may_say_meets, says_or_meets, member_refused}
+use Rattle.claim_tree.proofs.TreeValues as values
+use Rattle.file_members.proofs.FileVerdicts as verdicts
+use Rattle.claim_tree.proofs.TreeValues.{SaysOne}
 use Rattle.claim_tree.proofs.ListForms.{one_list, one_pointer}
 use Rattle.key_binding.specs.ShortText.{IsShortText}
 use Rattle.verifier_core.proofs.PolicyVersions.{one_short_text}
@@ -58,7 +59,7 @@ pub ruleset refused_at = (at_algs, at_want, at_never, at_binding)
 -- ---- one order
 
 one_alg_name : SaysOne IsAlgName
-one_alg_name t x y h k = verdicts.one_text t x y h.is k.is
+one_alg_name t x y h k = values.one_text t x y h.is k.is
 
 binding_made : Text → Option Text → Text → Text → CallerBinding
 binding_made alg kid aud nonce = record { alg = alg; kid = kid; aud = aud; nonce = nonce }
@@ -69,10 +70,10 @@ one_binding t b d h k =
     let objects : object h.members ≡ object k.members = sym h.is ∙ k.is in
     let same : h.members ≡ k.members = cc objects in
     let ms = k.members in
-    let alg : b.alg ≡ d.alg = verdicts.says_one IsAlgName (member_named ms (codes "alg")) b.alg d.alg one_alg_name (subst (λ ns. Says IsAlgName (member_named ns (codes "alg")) b.alg) same h.alg) k.alg in
-    let kid : b.kid ≡ d.kid = verdicts.may_say_one IsText (member_named ms (codes "kid")) b.kid d.kid verdicts.one_text (subst (λ ns. MaySay IsText (member_named ns (codes "kid")) b.kid) same h.kid) k.kid in
-    let aud : b.aud ≡ d.aud = verdicts.says_one IsShortText (member_named ms (codes "aud")) b.aud d.aud one_short_text (subst (λ ns. Says IsShortText (member_named ns (codes "aud")) b.aud) same h.aud) k.aud in
-    let nonce : b.nonce ≡ d.nonce = verdicts.says_one IsShortText (member_named ms (codes "nonce")) b.nonce d.nonce one_short_text (subst (λ ns. Says IsShortText (member_named ns (codes "nonce")) b.nonce) same h.nonce) k.nonce in
+    let alg : b.alg ≡ d.alg = values.says_one IsAlgName (member_named ms (codes "alg")) b.alg d.alg one_alg_name (subst (λ ns. Says IsAlgName (member_named ns (codes "alg")) b.alg) same h.alg) k.alg in
+    let kid : b.kid ≡ d.kid = values.may_say_one IsText (member_named ms (codes "kid")) b.kid d.kid values.one_text (subst (λ ns. MaySay IsText (member_named ns (codes "kid")) b.kid) same h.kid) k.kid in
+    let aud : b.aud ≡ d.aud = values.says_one IsShortText (member_named ms (codes "aud")) b.aud d.aud one_short_text (subst (λ ns. Says IsShortText (member_named ns (codes "aud")) b.aud) same h.aud) k.aud in
+    let nonce : b.nonce ≡ d.nonce = values.says_one IsShortText (member_named ms (codes "nonce")) b.nonce d.nonce one_short_text (subst (λ ns. Says IsShortText (member_named ns (codes "nonce")) b.nonce) same h.nonce) k.nonce in
     ap (λ x. binding_made x b.kid b.aud b.nonce) alg
     ∙ (ap (λ x. binding_made d.alg x b.aud b.nonce) kid ∙ (ap (λ x. binding_made d.alg d.kid x b.nonce) aud ∙ ap (λ x. binding_made d.alg d.kid d.aud x) nonce))
 
@@ -84,11 +85,11 @@ unfolding made
 one_present bytes p q h k =
     let same : h.members ≡ k.members = verdicts.one_object file_max bytes h.members k.members h.file.object k.file.object in
     let ms = k.members in
-    let algs : p.ask.algs ≡ q.ask.algs = verdicts.says_one IsTexts (found ms Algs) p.ask.algs q.ask.algs verdicts.one_texts (subst (λ ns. Says IsTexts (found ns Algs) p.ask.algs) same h.algs) k.algs in
-    let want : p.ask.want ≡ q.ask.want = verdicts.says_or_one (IsListOf IsPointer) [] (found ms Want) p.ask.want q.ask.want (one_list IsPointer one_pointer) (subst (λ ns. SaysOr (IsListOf IsPointer) [] (found ns Want) p.ask.want) same h.want) k.want in
-    let never : p.never ≡ q.never = verdicts.says_or_one (IsListOf IsPointer) [] (found ms Never) p.never q.never (one_list IsPointer one_pointer) (subst (λ ns. SaysOr (IsListOf IsPointer) [] (found ns Never) p.never) same h.never) k.never in
+    let algs : p.ask.algs ≡ q.ask.algs = values.says_one IsTexts (found ms Algs) p.ask.algs q.ask.algs values.one_texts (subst (λ ns. Says IsTexts (found ns Algs) p.ask.algs) same h.algs) k.algs in
+    let want : p.ask.want ≡ q.ask.want = values.says_or_one (IsListOf IsPointer) [] (found ms Want) p.ask.want q.ask.want (one_list IsPointer one_pointer) (subst (λ ns. SaysOr (IsListOf IsPointer) [] (found ns Want) p.ask.want) same h.want) k.want in
+    let never : p.never ≡ q.never = values.says_or_one (IsListOf IsPointer) [] (found ms Never) p.never q.never (one_list IsPointer one_pointer) (subst (λ ns. SaysOr (IsListOf IsPointer) [] (found ns Never) p.never) same h.never) k.never in
     let binding : p.ask.binding ≡ q.ask.binding =
-    verdicts.may_say_one IsCallerBinding (found ms Binding) p.ask.binding q.ask.binding one_binding (subst (λ ns. MaySay IsCallerBinding (found ns Binding) p.ask.binding) same h.binding) k.binding in
+    values.may_say_one IsCallerBinding (found ms Binding) p.ask.binding q.ask.binding one_binding (subst (λ ns. MaySay IsCallerBinding (found ns Binding) p.ask.binding) same h.binding) k.binding in
     ap (λ x. made x p.ask.want p.ask.binding p.never) algs
     ∙ (ap (λ x. made q.ask.algs x p.ask.binding p.never) want ∙ (ap (λ x. made q.ask.algs q.ask.want x p.never) binding ∙ ap (λ x. made q.ask.algs q.ask.want q.ask.binding x) never))
 

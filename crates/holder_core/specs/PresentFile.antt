@@ -2,12 +2,12 @@
 use Rattle.std.specs.Prelude.{◌≡◌, ℕ, List, [], ◌∷◌, Option, Some, None, is_some, codes}
 use Rattle.sd_outside.specs.Limits.{file_max}
 use Rattle.claim_tree.specs.Tree.{Text, Tree, object, Members, members_len, member_named}
-use Rattle.claim_tree.specs.FileForms.{IsText, Says, MaySay, SaysOr, Entry, required, optional, fields_of, found, HasMembers, IsFileRefused}
-use Rattle.claim_tree.specs.declared.file_fault.Field.TheVariants.{Keys, Want, Never, Binding}
-use Rattle.claim_tree.specs.declared.file_fault.FileFault.{FileFault}
+use Rattle.claim_tree.specs.TreeValues.{IsText, Says, MaySay, SaysOr, IsListOf, IsPointer}
+use Rattle.file_members.specs.FileForms.{Entry, required, optional, fields_of, found, HasMembers, IsFileRefused}
+use Rattle.file_members.specs.declared.field.Field.TheVariants.{Keys, Want, Never, Binding}
+use Rattle.file_members.specs.declared.file_fault.FileFault.{FileFault}
 use Rattle.hmac_sign.specs.Keys.{IsKeySet}
 use Rattle.key_binding.specs.ShortText.{IsShortText}
-use Rattle.claim_tree.specs.FileLists.{IsListOf, IsPointer}
 use Rattle.hmac_sign.specs.KeyText.{IsKeyText}
 use Rattle.holder_core.specs.declared.ask.BindingAsk.{BindingAsk}
 use Rattle.holder_core.specs.declared.present_file.PresentFile.{PresentFile}

@@ -3,10 +3,10 @@
 use Rattle.std.specs.Prelude.{◌≡◌, ◌≢◌, ℕ, List, [], ◌∷◌, Option, None, Some, codes}
 use Rattle.sd_outside.specs.Limits.{file_max}
 use Rattle.claim_tree.specs.Tree.{Text, Tree, object, Members, members_len, member_named}
-use Rattle.claim_tree.specs.FileForms.{IsText, IsTexts, Says, MaySay, SaysOr, Entry, required, optional, fields_of, found, HasMembers, IsFileRefused}
-use Rattle.claim_tree.specs.FileLists.{IsListOf, IsPointer}
-use Rattle.claim_tree.specs.declared.file_fault.Field.TheVariants.{Algs, Want, Never, Binding}
-use Rattle.claim_tree.specs.declared.file_fault.FileFault.{FileFault}
+use Rattle.claim_tree.specs.TreeValues.{IsText, IsTexts, Says, MaySay, SaysOr, IsListOf, IsPointer}
+use Rattle.file_members.specs.FileForms.{Entry, required, optional, fields_of, found, HasMembers, IsFileRefused}
+use Rattle.file_members.specs.declared.field.Field.TheVariants.{Algs, Want, Never, Binding}
+use Rattle.file_members.specs.declared.file_fault.FileFault.{FileFault}
 use Rattle.key_binding.specs.ShortText.{IsShortText}
 use Rattle.holder_core.specs.declared.ask.CallerBinding.{CallerBinding}
 use Rattle.holder_core.specs.declared.present_file.UnsignedPresentFile.{UnsignedPresentFile}

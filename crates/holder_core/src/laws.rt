@@ -1,7 +1,7 @@
 //! What the definitions of present orders and of presenting say together. Each
 //! law holds for every value.
 ghost use Rattle.std.specs.Prelude.{◌≡◌, ◌≢◌, ℕ, List};
-ghost use Rattle.claim_tree.specs.declared.file_fault.FileFault.{FileFault};
+ghost use Rattle.file_members.specs.declared.file_fault.FileFault.{FileFault};
 ghost use Rattle.compact_form.specs.declared.parts.Parts.{Parts};
 ghost use Rattle.hmac_sign.specs.Algs.{alg_text};
 ghost use Rattle.hmac_sign.specs.Hmac.{AlgKey, IsGood};

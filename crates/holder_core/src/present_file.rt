@@ -2,17 +2,17 @@
 ghost use Rattle.std.specs.Prelude.{List, ℕ, Option, codes, option_map, IfOk, IfErr, IfSome, IfNone};
 ghost use Rattle.claim_tree.specs.Tree.{Text, member_named};
 ghost use Rattle.claim_tree.specs.View.{tree_of};
-ghost use Rattle.claim_tree.specs.FileForms.{HasValue, IsText, IsTexts, Says, MaySay, required, optional, found};
-ghost use Rattle.claim_tree.specs.FileRefusals.{IsMemberRefused};
-ghost use Rattle.claim_tree.specs.declared.file_fault.Field.TheVariants.{Algs, Binding};
+ghost use Rattle.claim_tree.specs.TreeValues.{HasValue, IsText, IsTexts, Says, MaySay};
+ghost use Rattle.file_members.specs.FileForms.{required, optional, found};
+ghost use Rattle.file_members.specs.FileRefusals.{IsMemberRefused};
+ghost use Rattle.file_members.specs.declared.field.Field.TheVariants.{Algs, Binding};
 ghost use Rattle.hmac_sign.specs.KeyText.{IsKeyText};
 ghost use Rattle.holder_core.specs.PresentFile.{IsBindingOrder, IsPresentFile, IsPresentFileRefused};
 ghost use Rattle.holder_core.specs.UnsignedPresent.{IsAlgName, IsCallerBinding, IsUnsignedPresentFile, IsUnsignedPresentRefused};
 
 use crate::{Ask, BindingAsk, CallerAsk, CallerBinding};
-use claim_tree::{
-    Field, FileFault, PathList, Tree, TreeMap, pointer_list_member, read_members, text_list_member,
-};
+use claim_tree::{PathList, Tree, TreeMap};
+use file_members::{Field, FileFault, pointer_list_member, read_members, text_list_member};
 use compact_form::FILE_MAX;
 use hmac_sign::{Hs256Key, key_of, keys_member};
 use key_binding::short_text_in;

@@ -158,7 +158,7 @@ pub(crate) struct Unbound {
 
 // The token with the disclosures that are asked for, if nothing is refused, and
 // the algorithm of its digests.
-pub(crate) fn ready_parts<F: Fn(&Path) -> bool>(
+pub(crate) fn unbound_parts<F: Fn(&Path) -> bool>(
     alloc: Global,
     token: &TokenView<'_>,
     asked: &Asked<'_>,
@@ -188,7 +188,7 @@ pub(crate) fn ready_parts<F: Fn(&Path) -> bool>(
         return Ok((unbound, hash));
     }
     let marked = content.open(alloc, steps)?;
-    match choose_parts(alloc, token, &marked, asked, consent) {
+    match allowed_parts(alloc, token, &marked, asked, consent) {
         Ok(unbound) => Ok((unbound, hash)),
         Err(error) => Err(error),
     }
@@ -220,7 +220,7 @@ fn read_asked(
 }
 
 // The token with the disclosures that are asked for, if nothing is refused.
-fn choose_parts<F: Fn(&Path) -> bool>(
+fn allowed_parts<F: Fn(&Path) -> bool>(
     alloc: Global,
     token: &TokenView<'_>,
     marked: &Marked,
@@ -244,7 +244,7 @@ fn choose_parts<F: Fn(&Path) -> bool>(
         Ok(payload) => payload,
         Err(error) => return Err(error),
     };
-    let parts = picked_parts(alloc, token, &chosen)?;
+    let parts = parts_with_chosen(alloc, token, &chosen)?;
     Ok(Unbound { parts, payload })
 }
 
@@ -364,7 +364,7 @@ pub(crate) fn check_named(
 
 /// The token of the issuer with the chosen disclosures alone, in their order,
 /// and no key binding token.
-pub fn picked_parts(
+pub fn parts_with_chosen(
     alloc: Global,
     token: &TokenView<'_>,
     chosen: &ChosenSet,

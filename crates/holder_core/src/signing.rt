@@ -20,7 +20,7 @@ ghost use Rattle.holder_core.specs.ToSign.{none_good, AreUnsignedWords, IsIssuer
 ghost use Rattle.holder_core.specs.declared.errors.PresentError.{PresentError};
 
 use crate::asked::{Asked, AskedBinding};
-use crate::presenting::{Unbound, read_unbound, ready_parts};
+use crate::presenting::{Unbound, read_unbound, unbound_parts};
 use crate::{CallerAsk, PresentError};
 use claim_tree::{Path, Tree};
 use compact_form::{COMPACT_MAX, JwtParts, Parts, hashed_text, is_longer_than};
@@ -78,7 +78,7 @@ fn short_parts(parts: Parts) -> Result<Parts, PresentError>
 }
 
 // The parts with this key binding token, unless they are too long.
-fn bound_parts(unbound: Parts, token: JwtParts) -> Result<Parts, PresentError>
+fn parts_with_binding(unbound: Parts, token: JwtParts) -> Result<Parts, PresentError>
     ensures bound { IfOk result (IsWithBinding unbound token) }
     ensures short { IfOk result IsShort }
     ensures long { IfErr result
@@ -105,7 +105,7 @@ impl UnsignedPresentation {
             Ok(token) => token,
             Err(NoMemory) => return Err(PresentError::Memory),
         };
-        bound_parts(self.parts, token)
+        parts_with_binding(self.parts, token)
     }
 
     // The same, with a signature of the signer, which is asked once.
@@ -127,7 +127,7 @@ impl UnsignedPresentation {
             Err(SignError::Memory) => return Err(PresentError::Memory),
             Err(SignError::Failed) => return Err(PresentError::SignFailed),
         };
-        bound_parts(self.parts, token)
+        parts_with_binding(self.parts, token)
     }
 }
 
@@ -201,7 +201,7 @@ pub(crate) fn unsigned_parts<F: Fn(&Path) -> bool>(
     ensures within { IsCountedWithin token.now steps.old steps.new }
     ensures uncounted { IsUncounted (TokenFails token.now asked.now.rules) steps.old steps.new }
 {
-    let (unbound, hash) = match ready_parts(alloc, token, asked, consent, steps) {
+    let (unbound, hash) = match unbound_parts(alloc, token, asked, consent, steps) {
         Ok(ready) => ready,
         Err(error) => return Err(error),
     };

@@ -9,7 +9,7 @@ ghost use Rattle.holder_core.specs.PresentSteps.{IsWholeReady, IsWholeUnready};
 
 use crate::PresentError;
 use crate::asked::Asked;
-use crate::presenting::{Unbound, check_named, picked_parts};
+use crate::presenting::{Unbound, check_named, parts_with_chosen};
 use claim_tree::{PathList, Tree, find};
 use json_form::TokenView;
 use marked_tree::ChosenSet;
@@ -34,7 +34,7 @@ pub(crate) fn wanted_parts(
     if let Err(error) = check_named(asked.binding, &payload) {
         return Err(error);
     }
-    let parts = picked_parts(alloc, token, &ChosenSet::new(alloc))?;
+    let parts = parts_with_chosen(alloc, token, &ChosenSet::new(alloc))?;
     Ok(Unbound {
         parts,
         payload: Some(payload),

@@ -2,7 +2,7 @@
 use Rattle.std.proofs.Common.{ℕ, suc, ◌≤◌, List, [], ◌∷◌, ◌++◌, Equal, Greater, Less, None, Option, Ordering, Some, arith, decimal, inl, inr, subst, sym, ⊎_elim}
 use Rattle.std.specs.Cmp.Lexicographic.{slice_cmp}
 use Rattle.std.specs.Ordering.{match_ordering, nat_cmp}
-use Rattle.claim_tree.specs.FileForms.{text_elements}
+use Rattle.claim_tree.specs.TreeValues.{text_elements}
 use Rattle.sd_outside.specs.Lists.{In}
 use Rattle.claim_tree.specs.Tree.{ElementsRanged, IsRanged, Members, MembersRanged, Text, Tree, array, depth, elements_depth, inserted, member, members_depth, no_members}
 use Rattle.digest_sites.specs.Given.{Given}

@@ -5,7 +5,7 @@ use Rattle.std.specs.Cmp.Lexicographic.{slice_cmp}
 use Rattle.std.specs.Ordering.{match_ordering, nat_cmp}
 use Rattle.std.specs.Prelude.{bytes_eq}
 use Rattle.claim_tree.proofs.Everywheres.{EachElementIn, EachMemberIn, inserted_everywhere}
-use Rattle.claim_tree.specs.FileForms.{text_elements}
+use Rattle.claim_tree.specs.TreeValues.{text_elements}
 use Rattle.sd_outside.specs.Lists.{In}
 use Rattle.claim_tree.specs.Tree.{Elements, IsBefore, IsBeforeAll, Members, Text, Tree, array, element, inserted, leaf, member, no_elements, no_members, object}
 use Rattle.digest_sites.specs.Given.{Given}

@@ -1,6 +1,6 @@
 -- What is laid has ascending names.
 use Rattle.std.proofs.Common.{ℕ, suc, List, [], ◌∷◌, ◌++◌, None, Option, Some, decimal, inl, inr, subst, sym, ⊎_elim}
-use Rattle.claim_tree.specs.FileForms.{text_elements}
+use Rattle.claim_tree.specs.TreeValues.{text_elements}
 use Rattle.sd_outside.specs.Lists.{In}
 use Rattle.claim_tree.specs.Tree.{ElementsOrdered, IsBeforeAll, IsOrdered, Members, MembersOrdered, Text, Tree, array, names}
 use Rattle.digest_sites.specs.Given.{Given}

@@ -1,7 +1,7 @@
 -- One element more of a list that is laid.
 use Rattle.std.proofs.Common.{◌≡◌, ℕ, suc, ◌+◌, ◌≤◌, List, [], ◌∷◌, ◌++◌, length, map, drop, get_or, ◌<◌, append-nil, Option, None, Some, decimal, refl, sym, ap, subst, ◌∙◌, arith}
 use Rattle.std.proofs.lemmas.List.{drop_more}
-use Rattle.claim_tree.specs.FileForms.{text_elements}
+use Rattle.claim_tree.specs.TreeValues.{text_elements}
 use Rattle.claim_tree.specs.Tree.{Text, text, leaf, Tree, Elements, no_elements, element, elements_len, elements_depth}
 use Rattle.claim_tree.specs.TreeCalls.{pushed}
 use Rattle.claim_tree.specs.Nodes.{elements_nodes}

@@ -2,13 +2,13 @@
 use Rattle.std.proofs.Common.{◌≡◌, ℕ, List, [], take, drop, length, sym, subst, Option}
 use Rattle.sd_outside.specs.Limits.{file_max}
 use Rattle.claim_tree.specs.Tree.{Text, Members}
-use Rattle.claim_tree.specs.FileForms.{IsText, Says, MaySay, SaysOr, MemberMeets, Entry, required, optional, fields_of, found, HasMembers}
-use Rattle.claim_tree.specs.FileRefusals.{IsMemberRefused}
-use Rattle.claim_tree.specs.FileLists.{IsListOf, IsPointer}
-use Rattle.claim_tree.specs.declared.file_fault.Field.{Field}
-use Rattle.claim_tree.specs.declared.file_fault.Field.TheVariants.{Payload, Hide, Decoys, Key, Kid, Typ, SdAlg}
-use Rattle.claim_tree.specs.declared.file_fault.FileFault.{FileFault}
-use Rattle.claim_tree.proofs.FileMembers.{says_meets, may_say_meets, says_or_meets, member_refused}
+use Rattle.claim_tree.specs.TreeValues.{IsText, Says, MaySay, SaysOr, IsListOf, IsPointer}
+use Rattle.file_members.specs.FileForms.{MemberMeets, Entry, required, optional, fields_of, found, HasMembers}
+use Rattle.file_members.specs.FileRefusals.{IsMemberRefused}
+use Rattle.file_members.specs.declared.field.Field.{Field}
+use Rattle.file_members.specs.declared.field.Field.TheVariants.{Payload, Hide, Decoys, Key, Kid, Typ, SdAlg}
+use Rattle.file_members.specs.declared.file_fault.FileFault.{FileFault}
+use Rattle.file_members.proofs.FileMembers.{says_meets, may_say_meets, says_or_meets, member_refused}
 use Rattle.hmac_sign.specs.KeyText.{IsKeyBytes}
 use Rattle.hmac_sign.specs.declared.alg.Alg.{Alg}
 use Rattle.issuer_core.specs.OrderFile.{IsValue, IsDecoy, IsHashText, IsAlgFor, IsAlgOf, HasKey, order_table, IsOrderFileRefused}

@@ -5,16 +5,17 @@ use Rattle.claim_tree.specs.Tree as spec
 use Rattle.claim_tree.specs.Tree.{Text, text, leaf, object, Elements, no_elements, element, Members, member_named, depth, members_depth}
 use Rattle.sd_outside.specs.Lists.{In}
 use Rattle.claim_tree.specs.View.{tree_of}
-use Rattle.claim_tree.specs.FileForms.{IsText, IsWholeUpTo, Says, MaySay, SaysOr, HasValue, MemberMeets, MemberFails, missing, wrong, optional, found}
-use Rattle.claim_tree.specs.FileRefusals.{IsMemberRefused}
-use Rattle.claim_tree.specs.declared.file_fault.Field.{Field}
-use Rattle.claim_tree.specs.declared.file_fault.Field.TheVariants.{Payload, Hide, Decoys, Key, Kid, Typ, SdAlg}
-use Rattle.claim_tree.specs.declared.file_fault.FileFault.{FileFault}
-use Rattle.claim_tree.specs.declared.file_fault.FileFault.TheVariants.{Memory, Wrong}
-use Rattle.claim_tree.proofs.FileMembers.{says_meets, may_say_meets, says_or_meets}
-use Rattle.claim_tree.proofs.FileVerdicts as verdicts
-use Rattle.claim_tree.proofs.FileVerdicts.{SaysOne}
-use Rattle.claim_tree.specs.FileLists.{IsListOf, EachSays, IsPointer}
+use Rattle.claim_tree.specs.TreeValues.{IsText, IsWholeUpTo, Says, MaySay, SaysOr, HasValue, IsListOf, EachSays, IsPointer}
+use Rattle.file_members.specs.FileForms.{MemberMeets, MemberFails, missing, wrong, optional, found}
+use Rattle.file_members.specs.FileRefusals.{IsMemberRefused}
+use Rattle.file_members.specs.declared.field.Field.{Field}
+use Rattle.file_members.specs.declared.field.Field.TheVariants.{Payload, Hide, Decoys, Key, Kid, Typ, SdAlg}
+use Rattle.file_members.specs.declared.file_fault.FileFault.{FileFault}
+use Rattle.file_members.specs.declared.file_fault.FileFault.TheVariants.{Memory, Wrong}
+use Rattle.file_members.proofs.FileMembers.{says_meets, may_say_meets, says_or_meets}
+use Rattle.claim_tree.proofs.TreeValues as values
+use Rattle.file_members.proofs.FileVerdicts as verdicts
+use Rattle.claim_tree.proofs.TreeValues.{SaysOne}
 use Rattle.disclosure.specs.Digest.{hash_name, hash_of_text}
 use Rattle.disclosure.specs.declared.digests.HashAlg.{HashAlg}
 use Rattle.disclosure.proofs.HashNames.{of_its_name}
@@ -41,8 +42,8 @@ unfolding entry_of
 one_decoy t d e h k =
     let both : object h.members ≡ object k.members = sym h.is ∙ k.is in
     let same : h.members ≡ k.members = cc both in
-    let at : d.at ≡ e.at = verdicts.says_one IsPointer (member_named k.members (codes "at")) d.at e.at one_pointer (subst (λ ns. Says IsPointer (member_named ns (codes "at")) d.at) same h.at) k.at in
-    let count : d.count ≡ e.count = verdicts.says_one (IsWholeUpTo count_max) (member_named k.members (codes "count")) d.count e.count (verdicts.one_whole count_max) (subst (λ ns. Says (IsWholeUpTo count_max) (member_named ns (codes "count")) d.count) same h.count) k.count in
+    let at : d.at ≡ e.at = values.says_one IsPointer (member_named k.members (codes "at")) d.at e.at one_pointer (subst (λ ns. Says IsPointer (member_named ns (codes "at")) d.at) same h.at) k.at in
+    let count : d.count ≡ e.count = values.says_one (IsWholeUpTo count_max) (member_named k.members (codes "count")) d.count e.count (values.one_whole count_max) (subst (λ ns. Says (IsWholeUpTo count_max) (member_named ns (codes "count")) d.count) same h.count) k.count in
     ap (λ x. entry_of x d.count) at ∙ ap (λ n. entry_of e.at n) count
 
 -- no entry asks for more than an order may have
@@ -123,7 +124,7 @@ enough_bytes (Some t) key h = h.enough
 one_key : (bytes : Text) (key other : List ℕ) → HasKey bytes key → HasKey bytes other → key ≡ other
 one_key bytes key other h k =
     let same = verdicts.one_object file_max bytes h.members k.members h.file k.file in
-    verdicts.says_one IsKeyBytes (found k.members Key) key other one_key_bytes (subst (λ ns. Says IsKeyBytes (found ns Key) key) same h.says) k.says
+    values.says_one IsKeyBytes (found k.members Key) key other one_key_bytes (subst (λ ns. Says IsKeyBytes (found ns Key) key) same h.says) k.says
 
 pub alg_of_file : (bytes : Text) (key : List ℕ) → HasKey bytes key → (t : spec.Tree) → HasValue (IsAlgOf bytes) t → HasValue (IsAlgFor (length key)) t
 alg_of_file bytes key has t h = (h.0, subst (λ (k : List ℕ). IsAlgFor (length k) t h.0) (one_key bytes h.1.key key h.1.has has) h.1.is_for)
@@ -146,30 +147,30 @@ module _ (bytes : Text) (f g : IssueFile) (h : IsOrderFile bytes f) (k : IsOrder
   same = verdicts.one_object file_max bytes h.members k.members h.file.object k.file.object
 
   claims_one : tree_of f.order.payload ≡ tree_of g.order.payload
-  claims_one = verdicts.says_one IsValue (found k.members Payload) (tree_of f.order.payload) (tree_of g.order.payload) one_value (subst (λ ns. Says IsValue (found ns Payload) (tree_of f.order.payload)) same h.payload) k.payload
+  claims_one = values.says_one IsValue (found k.members Payload) (tree_of f.order.payload) (tree_of g.order.payload) one_value (subst (λ ns. Says IsValue (found ns Payload) (tree_of f.order.payload)) same h.payload) k.payload
 
   hide_one : f.order.hide ≡ g.order.hide
-  hide_one = verdicts.says_or_one (IsListOf IsPointer) [] (found k.members Hide) f.order.hide g.order.hide (one_list IsPointer one_pointer) (subst (λ ns. SaysOr (IsListOf IsPointer) [] (found ns Hide) f.order.hide) same h.hide) k.hide
+  hide_one = values.says_or_one (IsListOf IsPointer) [] (found k.members Hide) f.order.hide g.order.hide (one_list IsPointer one_pointer) (subst (λ ns. SaysOr (IsListOf IsPointer) [] (found ns Hide) f.order.hide) same h.hide) k.hide
 
   decoys_one : f.order.decoys ≡ g.order.decoys
-  decoys_one = verdicts.says_or_one (IsListOf IsDecoy) [] (found k.members Decoys) f.order.decoys g.order.decoys (one_list IsDecoy one_decoy) (subst (λ ns. SaysOr (IsListOf IsDecoy) [] (found ns Decoys) f.order.decoys) same h.decoys) k.decoys
+  decoys_one = values.says_or_one (IsListOf IsDecoy) [] (found k.members Decoys) f.order.decoys g.order.decoys (one_list IsDecoy one_decoy) (subst (λ ns. SaysOr (IsListOf IsDecoy) [] (found ns Decoys) f.order.decoys) same h.decoys) k.decoys
 
   kid_one : f.order.kid ≡ g.order.kid
-  kid_one = verdicts.may_say_one IsText (found k.members Kid) f.order.kid g.order.kid verdicts.one_text (subst (λ ns. MaySay IsText (found ns Kid) f.order.kid) same h.kid) k.kid
+  kid_one = values.may_say_one IsText (found k.members Kid) f.order.kid g.order.kid values.one_text (subst (λ ns. MaySay IsText (found ns Kid) f.order.kid) same h.kid) k.kid
 
   typ_one : f.order.typ ≡ g.order.typ
-  typ_one = verdicts.may_say_one IsText (found k.members Typ) f.order.typ g.order.typ verdicts.one_text (subst (λ ns. MaySay IsText (found ns Typ) f.order.typ) same h.typ) k.typ
+  typ_one = values.may_say_one IsText (found k.members Typ) f.order.typ g.order.typ values.one_text (subst (λ ns. MaySay IsText (found ns Typ) f.order.typ) same h.typ) k.typ
 
   hash_one : f.order.hash ≡ g.order.hash
-  hash_one = verdicts.says_or_one IsHashText HashAlg.Sha256 (found k.members SdAlg) f.order.hash g.order.hash one_hash_text (subst (λ ns. SaysOr IsHashText HashAlg.Sha256 (found ns SdAlg) f.order.hash) same h.hash) k.hash
+  hash_one = values.says_or_one IsHashText HashAlg.Sha256 (found k.members SdAlg) f.order.hash g.order.hash one_hash_text (subst (λ ns. SaysOr IsHashText HashAlg.Sha256 (found ns SdAlg) f.order.hash) same h.hash) k.hash
 
   bytes_one : h.key_bytes ≡ k.key_bytes
-  bytes_one = verdicts.says_one IsKeyBytes (found k.members Key) h.key_bytes k.key_bytes one_key_bytes (subst (λ ns. Says IsKeyBytes (found ns Key) h.key_bytes) same h.says_key) k.says_key
+  bytes_one = values.says_one IsKeyBytes (found k.members Key) h.key_bytes k.key_bytes one_key_bytes (subst (λ ns. Says IsKeyBytes (found ns Key) h.key_bytes) same h.says_key) k.says_key
 
   alg_one : h.alg ≡ k.alg
   alg_one =
       let other = subst (λ (b : List ℕ). SaysOr (IsAlgFor (length b)) Alg.Hs256 (found h.members Field.Alg) h.alg) bytes_one h.says_alg in
-      verdicts.says_or_one (IsAlgFor (length k.key_bytes)) Alg.Hs256 (found k.members Field.Alg) h.alg k.alg (one_alg_for (length k.key_bytes)) (subst (λ ns. SaysOr (IsAlgFor (length k.key_bytes)) Alg.Hs256 (found ns Field.Alg) h.alg) same other) k.says_alg
+      values.says_or_one (IsAlgFor (length k.key_bytes)) Alg.Hs256 (found k.members Field.Alg) h.alg k.alg (one_alg_for (length k.key_bytes)) (subst (λ ns. SaysOr (IsAlgFor (length k.key_bytes)) Alg.Hs256 (found ns Field.Alg) h.alg) same other) k.says_alg
 
   pub key_one : f.key ≡ g.key
   key_one = h.key ∙ (ap₂ alg_key alg_one bytes_one ∙ sym k.key)

@@ -4,7 +4,7 @@ use Rattle.std.proofs.lemmas.Map.Lookups.{exact_bytes}
 use Rattle.std.specs.Cmp.Lexicographic.{slice_cmp}
 use Rattle.std.specs.Ordering.{match_ordering, nat_cmp}
 use Rattle.std.specs.Prelude.{bytes_eq, option_and_then}
-use Rattle.claim_tree.specs.FileForms.{text_elements}
+use Rattle.claim_tree.specs.TreeValues.{text_elements}
 use Rattle.sd_outside.specs.Lists.{In}
 use Rattle.claim_tree.specs.Tree.{Members, Text, Tree, array, inserted, member, no_members, object}
 use Rattle.digest_sites.specs.Reserved.{dots_name, element_digest, sd_name, sd_texts, texts_of}

@@ -3,13 +3,14 @@ use Rattle.std.proofs.Common.{◌≡◌, ◌≢◌, List, [], take, drop, subst,
 use Rattle.sd_outside.specs.Limits.{file_max}
 use Rattle.claim_tree.specs.Tree.{Text, Tree, Members}
 use Rattle.claim_tree.specs.View.{tree_of}
-use Rattle.claim_tree.specs.FileForms.{IsText, Says, MaySay, SaysOr, MemberMeets, Entry, required, optional, fields_of, found, HasMembers}
-use Rattle.claim_tree.specs.FileRefusals.{IsMemberRefused}
-use Rattle.claim_tree.specs.FileLists.{IsListOf, IsPointer}
-use Rattle.claim_tree.specs.declared.file_fault.Field.TheVariants.{Payload, Hide, Decoys, Kid, Typ, SdAlg}
-use Rattle.claim_tree.specs.declared.file_fault.FileFault.{FileFault}
-use Rattle.claim_tree.proofs.FileMembers.{says_meets, may_say_meets, says_or_meets, member_refused}
-use Rattle.claim_tree.proofs.FileVerdicts as verdicts
+use Rattle.claim_tree.specs.TreeValues.{IsText, Says, MaySay, SaysOr, IsListOf, IsPointer}
+use Rattle.file_members.specs.FileForms.{MemberMeets, Entry, required, optional, fields_of, found, HasMembers}
+use Rattle.file_members.specs.FileRefusals.{IsMemberRefused}
+use Rattle.file_members.specs.declared.field.Field.TheVariants.{Payload, Hide, Decoys, Kid, Typ, SdAlg}
+use Rattle.file_members.specs.declared.file_fault.FileFault.{FileFault}
+use Rattle.file_members.proofs.FileMembers.{says_meets, may_say_meets, says_or_meets, member_refused}
+use Rattle.claim_tree.proofs.TreeValues as values
+use Rattle.file_members.proofs.FileVerdicts as verdicts
 use Rattle.claim_tree.proofs.ListForms.{one_list, one_pointer}
 use Rattle.disclosure.specs.declared.digests.HashAlg.{HashAlg}
 use Rattle.issuer_core.specs.Order as seen
@@ -65,12 +66,12 @@ pub one_order : (bytes : Text) (f g : Order) → IsUnsignedOrderFile bytes f →
 unfolding made
 one_order bytes f g h k =
     let same = verdicts.one_object file_max bytes h.members k.members h.file.object k.file.object in
-    let payload = verdicts.says_one IsValue (found k.members Payload) (tree_of f.payload) (tree_of g.payload) one_value (subst (λ ns. Says IsValue (found ns Payload) (tree_of f.payload)) same h.payload) k.payload in
-    let hide = verdicts.says_or_one (IsListOf IsPointer) [] (found k.members Hide) f.hide g.hide (one_list IsPointer one_pointer) (subst (λ ns. SaysOr (IsListOf IsPointer) [] (found ns Hide) f.hide) same h.hide) k.hide in
-    let decoys = verdicts.says_or_one (IsListOf IsDecoy) [] (found k.members Decoys) f.decoys g.decoys (one_list IsDecoy one_decoy) (subst (λ ns. SaysOr (IsListOf IsDecoy) [] (found ns Decoys) f.decoys) same h.decoys) k.decoys in
-    let kid = verdicts.may_say_one IsText (found k.members Kid) f.kid g.kid verdicts.one_text (subst (λ ns. MaySay IsText (found ns Kid) f.kid) same h.kid) k.kid in
-    let typ = verdicts.may_say_one IsText (found k.members Typ) f.typ g.typ verdicts.one_text (subst (λ ns. MaySay IsText (found ns Typ) f.typ) same h.typ) k.typ in
-    let hash = verdicts.says_or_one IsHashText HashAlg.Sha256 (found k.members SdAlg) f.hash g.hash one_hash_text (subst (λ ns. SaysOr IsHashText HashAlg.Sha256 (found ns SdAlg) f.hash) same h.hash) k.hash in
+    let payload = values.says_one IsValue (found k.members Payload) (tree_of f.payload) (tree_of g.payload) one_value (subst (λ ns. Says IsValue (found ns Payload) (tree_of f.payload)) same h.payload) k.payload in
+    let hide = values.says_or_one (IsListOf IsPointer) [] (found k.members Hide) f.hide g.hide (one_list IsPointer one_pointer) (subst (λ ns. SaysOr (IsListOf IsPointer) [] (found ns Hide) f.hide) same h.hide) k.hide in
+    let decoys = values.says_or_one (IsListOf IsDecoy) [] (found k.members Decoys) f.decoys g.decoys (one_list IsDecoy one_decoy) (subst (λ ns. SaysOr (IsListOf IsDecoy) [] (found ns Decoys) f.decoys) same h.decoys) k.decoys in
+    let kid = values.may_say_one IsText (found k.members Kid) f.kid g.kid values.one_text (subst (λ ns. MaySay IsText (found ns Kid) f.kid) same h.kid) k.kid in
+    let typ = values.may_say_one IsText (found k.members Typ) f.typ g.typ values.one_text (subst (λ ns. MaySay IsText (found ns Typ) f.typ) same h.typ) k.typ in
+    let hash = values.says_or_one IsHashText HashAlg.Sha256 (found k.members SdAlg) f.hash g.hash one_hash_text (subst (λ ns. SaysOr IsHashText HashAlg.Sha256 (found ns SdAlg) f.hash) same h.hash) k.hash in
     ap (λ x. made x f.hide f.decoys f.kid f.typ f.hash) payload
     ∙ (ap (λ x. made (tree_of g.payload) x f.decoys f.kid f.typ f.hash) hide
     ∙ (ap (λ x. made (tree_of g.payload) g.hide x f.kid f.typ f.hash) decoys

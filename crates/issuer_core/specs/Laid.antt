@@ -3,7 +3,7 @@
 use Rattle.std.specs.Prelude.{◌≡◌, ℕ, suc, ◌+◌, ◌<◌, List, [], ◌∷◌, ◌++◌, length, Option, Some, None, decimal}
 use Rattle.std.specs.Ordering.{match_ordering, nat_cmp}
 use Rattle.std.specs.Cmp.Lexicographic.{slice_cmp}
-use Rattle.claim_tree.specs.FileForms.{text_elements}
+use Rattle.claim_tree.specs.TreeValues.{text_elements}
 use Rattle.claim_tree.specs.Tree.{Text, text, Tree, leaf, array, object, Elements, no_elements, element, Members, no_members, member, inserted}
 use Rattle.sd_outside.specs.Lists.{StandsAt}
 use Rattle.digest_sites.specs.Reserved.{sd_name, dots_name}

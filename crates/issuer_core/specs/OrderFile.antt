@@ -3,11 +3,11 @@ use Rattle.std.specs.Prelude.{◌≡◌, ◌≤◌, ℕ, List, [], ◌∷◌, le
 use Rattle.sd_outside.specs.Limits.{count_max, file_max}
 use Rattle.claim_tree.specs.Tree.{Text, text, Tree, leaf, object, Members, members_len, member_named}
 use Rattle.claim_tree.specs.View.{tree_of}
-use Rattle.claim_tree.specs.FileForms.{IsText, IsWholeUpTo, Says, MaySay, SaysOr, Entry, required, optional, fields_of, found, IsObjectFile, HasMembers, IsFileRefused}
-use Rattle.claim_tree.specs.declared.file_fault.Field.{Field}
-use Rattle.claim_tree.specs.declared.file_fault.Field.TheVariants.{Payload, Hide, Decoys, Key, Kid, Typ, SdAlg}
-use Rattle.claim_tree.specs.declared.file_fault.FileFault.{FileFault}
-use Rattle.claim_tree.specs.FileLists.{IsListOf, IsPointer}
+use Rattle.claim_tree.specs.TreeValues.{IsText, IsWholeUpTo, Says, MaySay, SaysOr, IsListOf, IsPointer}
+use Rattle.file_members.specs.FileForms.{Entry, required, optional, fields_of, found, IsObjectFile, HasMembers, IsFileRefused}
+use Rattle.file_members.specs.declared.field.Field.{Field}
+use Rattle.file_members.specs.declared.field.Field.TheVariants.{Payload, Hide, Decoys, Key, Kid, Typ, SdAlg}
+use Rattle.file_members.specs.declared.file_fault.FileFault.{FileFault}
 use Rattle.disclosure.specs.Digest.{hash_name}
 use Rattle.disclosure.specs.declared.digests.HashAlg.{HashAlg}
 use Rattle.hmac_sign.specs.Algs.{alg_text, key_least}

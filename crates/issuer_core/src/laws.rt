@@ -1,7 +1,7 @@
 //! What the definitions say together. Each law of digests holds for every way
 //! to make texts and digests.
 ghost use Rattle.std.specs.Prelude.{◌≡◌, ◌≢◌, ℕ, List};
-ghost use Rattle.claim_tree.specs.declared.file_fault.FileFault.{FileFault};
+ghost use Rattle.file_members.specs.declared.file_fault.FileFault.{FileFault};
 ghost use Rattle.issuer_core.specs.Order.{order_of};
 ghost use Rattle.issuer_core.specs.OrderFile.{IsOrderFile, IsOrderFileRefused};
 ghost use Rattle.issuer_core.specs.UnsignedOrder.{IsUnsignedOrderFile, IsUnsignedOrderRefused};

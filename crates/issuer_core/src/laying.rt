@@ -1,6 +1,6 @@
 // The walk that hides, RFC 9901 section 4.2.4.
 ghost use Rattle.std.specs.Prelude.{◌≡◌, ◌+◌, ◌≤◌, ◌<◌, List, [], ◌∷◌, ◌++◌, length, map, drop, option_map, IfOk, OnOk, IsTrue};
-ghost use Rattle.claim_tree.specs.FileForms.{text_elements};
+ghost use Rattle.claim_tree.specs.TreeValues.{text_elements};
 ghost use Rattle.sd_outside.specs.Limits.{count_max, depth_max};
 ghost use Rattle.claim_tree.specs.Tree.{Text, depth, elements_depth, members_depth};
 ghost use Rattle.claim_tree.specs.View.{tree_of};
@@ -256,7 +256,7 @@ fn lay_list(
     let mut laid = TreeList::with_capacity(alloc, count.saturating_add(own.len()))?;
     for (mark, tree) in list.into_elements() {
         let below = decoys.below_element(laid.len());
-        let tree = match lay_part(alloc, None, mark, tree, below, hiding, layer)? {
+        let tree = match lay_node(alloc, None, mark, tree, below, hiding, layer)? {
             LaidNode::Shown(tree) => tree,
             LaidNode::Hidden(digest) => digest_object(alloc, digest)?,
         };
@@ -299,7 +299,7 @@ fn lay_map(
     let mut digests = Vec::new(alloc);
     for (name, mark, tree) in members.into_members() {
         let below = decoys.below(name.as_str());
-        let part = lay_part(alloc, Some(name.as_str()), mark, tree, below, hiding, layer)?;
+        let part = lay_node(alloc, Some(name.as_str()), mark, tree, below, hiding, layer)?;
         put_part(&mut laid, &mut digests, name, part)?;
     }
     push_copies(alloc, &mut digests, decoys.here())?;
@@ -309,7 +309,7 @@ fn lay_map(
 
 // A member or an element with its mark, where its own decoys are told.
 #[cycle(lay)]
-fn lay_part(
+fn lay_node(
     alloc: Global,
     name: Option<&str>,
     mark: Option<u32>,
@@ -409,9 +409,9 @@ pub(crate) fn lay_order(
     ensures few { IfOk result (λ laid. length laid.texts ≤ count_max) }
 {
     if hides_nothing(&order) {
-        return lay_shown(alloc, order.hash, order.payload);
+        return lay_unhidden(alloc, order.hash, order.payload);
     }
-    lay_hidden(alloc, order, places, seed)
+    lay_by_seed(alloc, order, places, seed)
 }
 
 // Whether it hides nothing and has no decoys.
@@ -423,7 +423,7 @@ fn hides_nothing(order: &Order) -> bool
 }
 
 // A payload of which nothing is hidden.
-fn lay_shown(alloc: Global, hash: HashAlg, payload: Tree) -> Result<Laid, NoMemory>
+fn lay_unhidden(alloc: Global, hash: HashAlg, payload: Tree) -> Result<Laid, NoMemory>
     ensures { IfOk result
         (λ laid. (tree_of laid.payload ≡ spec.with_alg hash (tree_of payload)) × (laid.texts ≡ [])
         × (laid.digests ≡ [])) }
@@ -437,7 +437,7 @@ fn lay_shown(alloc: Global, hash: HashAlg, payload: Tree) -> Result<Laid, NoMemo
 }
 
 // An order with what it hides and its decoys, by the salts of a seed.
-fn lay_hidden(
+fn lay_by_seed(
     alloc: Global,
     order: Order,
     places: PathList,
@@ -465,11 +465,11 @@ fn lay_hidden(
         salts: &salts,
         hash,
     };
-    lay_salted(alloc, claims, &decoys, hiding, hidden)
+    lay_by_salts(alloc, claims, &decoys, hiding, hidden)
 }
 
 // Marked claims and decoys by salts: the first `hidden` are those of the disclosures.
-fn lay_salted(
+fn lay_by_salts(
     alloc: Global,
     claims: Marked,
     decoys: &DecoyList,
@@ -486,13 +486,13 @@ fn lay_salted(
 {
     let of_decoys = decoy_digests(alloc, hiding, hidden)?;
     let sorted = sort_decoys(alloc, decoys, &of_decoys)?;
-    let mut laid = lay_claims(alloc, claims, sorted.all(), hiding)?;
+    let mut laid = lay_marked(alloc, claims, sorted.all(), hiding)?;
     push_texts(&mut laid.digests, of_decoys)?;
     Ok(laid)
 }
 
 // Marked claims with their decoys. Of the digests, those of the disclosures alone are answered.
-fn lay_claims(
+fn lay_marked(
     alloc: Global,
     claims: Marked,
     decoys: Decoys<'_>,

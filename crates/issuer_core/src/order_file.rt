@@ -5,11 +5,11 @@ ghost use Rattle.claim_tree.specs.Tree.{IsOrdered, depth as depth_of};
 ghost use Rattle.sd_outside.specs.Lists.{In};
 ghost use Rattle.claim_tree.specs.View.{tree_of};
 ghost use Rattle.claim_tree.specs.ListViews.{elements_of};
-ghost use Rattle.claim_tree.specs.FileForms.{HasValue, Says, SaysOr, MemberMeets, required, optional, found};
-ghost use Rattle.claim_tree.specs.FileRefusals.{IsMemberRefused};
-ghost use Rattle.claim_tree.specs.declared.file_fault.Field.{Field};
-ghost use Rattle.claim_tree.specs.declared.file_fault.Field.TheVariants.{Payload, Decoys, SdAlg};
-ghost use Rattle.claim_tree.specs.FileLists.{IsListOf, EachSays};
+ghost use Rattle.claim_tree.specs.TreeValues.{HasValue, Says, SaysOr, IsListOf, EachSays};
+ghost use Rattle.file_members.specs.FileForms.{MemberMeets, required, optional, found};
+ghost use Rattle.file_members.specs.FileRefusals.{IsMemberRefused};
+ghost use Rattle.file_members.specs.declared.field.Field.{Field};
+ghost use Rattle.file_members.specs.declared.field.Field.TheVariants.{Payload, Decoys, SdAlg};
 ghost use Rattle.disclosure.specs.declared.digests.HashAlg.{HashAlg};
 ghost use Rattle.hmac_sign.specs.Hmac.{alg_key};
 ghost use Rattle.hmac_sign.specs.declared.alg.Alg.{Alg};
@@ -18,10 +18,8 @@ ghost use Rattle.issuer_core.specs.OrderFile.{IsValue, IsDecoy, IsHashText, IsAl
 ghost use Rattle.issuer_core.specs.UnsignedOrder.{IsUnsignedOrderFile, IsUnsignedOrderRefused};
 
 use crate::{Decoy, DecoyList, Order};
-use claim_tree::{
-    Field, FileFault, Tree, TreeMap, pointer_list_member, pointer_of, read_members, text_member,
-    whole_up_to,
-};
+use claim_tree::{Tree, TreeMap, pointer_of, whole_up_to};
+use file_members::{Field, FileFault, pointer_list_member, read_members, text_member};
 use compact_form::FILE_MAX;
 use disclosure::{HashAlg, hash_named};
 use hmac_sign::{Alg, HsKey, KeyShort, alg_named, key_bytes_member};

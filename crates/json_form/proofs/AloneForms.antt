@@ -9,7 +9,7 @@ use Rattle.serde_json.specs.Written.{items_text, members_text, comma_if}
 use Rattle.b64url_text.specs.Base64url.{letters, is_letter, IsWord}
 use Rattle.b64url_text.proofs.Words.{IsAscii-letters}
 use Rattle.claim_tree.specs.Tree.{Text, text, Tree, leaf, array, object, no_elements, element, Members, no_members, member, IsOrdered, MembersOrdered, inserted}
-use Rattle.claim_tree.specs.FileForms.{text_elements}
+use Rattle.claim_tree.specs.TreeValues.{text_elements}
 use Rattle.claim_tree.specs.JsonText.{elements_data, members_data, json_text}
 use Rattle.claim_tree.proofs.RoundTrip.{read_of_text}
 use Rattle.refusals.specs.declared.condition.Condition.{Condition}

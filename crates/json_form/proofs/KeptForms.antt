@@ -4,7 +4,7 @@ use Rattle.std.specs.Prelude.{bytes_eq}
 use Rattle.std.specs.Option.{is_some}
 use Rattle.claim_tree.specs.Tree.{Text, text, Tree, leaf, array, object, Elements, no_elements, element, element_at, Members, no_members, get}
 use Rattle.claim_tree.specs.Kept.{kept, kept_elements, kept_members, ReadsKept}
-use Rattle.claim_tree.specs.FileForms.{Says, SaysOr, HasValue}
+use Rattle.claim_tree.specs.TreeValues.{Says, SaysOr, HasValue}
 use Rattle.claim_tree.specs.JsonText.{Reads}
 use Rattle.refusals.specs.PartWords.{part_word}
 use Rattle.refusals.specs.declared.fault.Part.{Part}

@@ -3,11 +3,10 @@ use Rattle.std.proofs.Common.{◌≡◌, ◌≢◌, ℕ, ◌≤◌, true, false,
 use Rattle.std.proofs.lemmas.Bool.{cases_lt}
 use Rattle.claim_tree.specs.Tree.{Text, Tree, array, object, Elements, element, Members}
 use Rattle.claim_tree.specs.Removed.{removed}
-use Rattle.claim_tree.specs.FileForms.{Says}
+use Rattle.claim_tree.specs.TreeValues.{Says}
 use Rattle.claim_tree.specs.JsonText.{Reads}
 use Rattle.sd_outside.specs.Lists.{IsLeast, AtNone}
-use Rattle.claim_tree.proofs.FileVerdicts.{is_json, is_whole}
-use Rattle.claim_tree.proofs.OneTree.{one_tree}
+use Rattle.claim_tree.proofs.OneTree.{is_json, is_whole, one_tree}
 use Rattle.refusals.specs.PartWords.{part_word}
 use Rattle.refusals.specs.declared.fault.Part.TheVariants.{Payload, Protected, Signature, Signatures, Header}
 use Rattle.refusals.specs.declared.fault.JsonPlace.{JsonPlace}

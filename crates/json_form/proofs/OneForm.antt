@@ -2,9 +2,9 @@
 use Rattle.std.proofs.Common.{◌≡◌, ℕ, List, [], Option, Some, None, ◌==◌, if◌then◌else◌, refl, sym, ap, subst, ◌∙◌, arith}
 use Rattle.claim_tree.specs.Tree.{Text, text, Tree, leaf, array, object, element, Members, no_members}
 use Rattle.claim_tree.specs.Removed.{removed}
-use Rattle.claim_tree.specs.FileForms.{MaySay, SaysOr}
-use Rattle.claim_tree.proofs.FileVerdicts.{SaysOne, says_one, may_say_one, says_or_one, one_texts, is_json, is_whole, one_cause}
-use Rattle.claim_tree.proofs.OneTree.{one_tree}
+use Rattle.claim_tree.specs.TreeValues.{MaySay, SaysOr}
+use Rattle.claim_tree.proofs.TreeValues.{SaysOne, says_one, may_say_one, says_or_one, one_texts}
+use Rattle.claim_tree.proofs.OneTree.{is_json, is_whole, one_cause, one_tree}
 use Rattle.compact_form.specs.Compact.{jwt, HasWords, compact, IsCompact}
 use Rattle.refusals.specs.PartWords.{part_word}
 use Rattle.compact_form.specs.declared.parts.JwtParts.{JwtParts}

@@ -2,7 +2,7 @@
 use Rattle.std.proofs.Common.{◌≡◌, ◌≤◌, List, [], Option, Some, None, Result, Ok, Err, IsErrAnd, refl, sym, ap, subst, ◌∙◌, arith}
 use Rattle.claim_tree.specs.Tree.{Text, Tree, object, Members, no_members}
 use Rattle.claim_tree.specs.Removed.{removed}
-use Rattle.claim_tree.specs.FileForms.{Says, MaySay, SaysOr, HasValue}
+use Rattle.claim_tree.specs.TreeValues.{Says, MaySay, SaysOr, HasValue}
 use Rattle.refusals.specs.PartWords.{part_word}
 use Rattle.refusals.specs.declared.fault.Part.{Part}
 use Rattle.refusals.specs.declared.fault.Part.TheVariants.{Protected, Signature, Header, Disclosures, KbJwt}

@@ -5,12 +5,12 @@ use Rattle.b64url_text.specs.Base64url.{IsWord}
 use Rattle.claim_tree.specs.Tree as spec
 use Rattle.claim_tree.specs.Tree.{Text, leaf, text, array}
 use Rattle.claim_tree.specs.TreeCalls.{pushed}
-use Rattle.claim_tree.specs.FileForms.{text_elements, HasValue}
+use Rattle.claim_tree.specs.TreeValues.{text_elements, HasValue}
 use Rattle.claim_tree.specs.View.{tree_of}
 use Rattle.claim_tree.specs.ListViews.{elements_of}
 use Rattle.claim_tree.specs.declared.tree.Tree as tree
 use Rattle.claim_tree.proofs.Views.{elements_of-push}
-use Rattle.claim_tree.proofs.FileMembers.{text_elements-push}
+use Rattle.claim_tree.proofs.TreeValues.{text_elements-push}
 use Rattle.json_form.specs.Json.{IsWordTree, AreWordTrees}
 
 word_there : (done : List tree.Tree) (t : tree.Tree) (more : List tree.Tree) (texts : List Text) → text_elements texts ≡ elements_of (done ++ t ∷ more) → AllByRecursion IsWord texts → HasValue IsWordTree (tree_of t)

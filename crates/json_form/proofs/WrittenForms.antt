@@ -5,7 +5,7 @@ use Rattle.b64url_text.specs.Base64url.{IsWord}
 use Rattle.claim_tree.specs.Tree.{Text, text, Tree, leaf, array, object, no_elements, element, Elements, Members, no_members, inserted, depth, elements_depth, members_depth, IsRanged, MembersRanged}
 use Rattle.claim_tree.specs.TreeCalls.{pushed}
 use Rattle.claim_tree.specs.Removed.{removed}
-use Rattle.claim_tree.specs.FileForms.{Says, MaySay, SaysOr, text_elements}
+use Rattle.claim_tree.specs.TreeValues.{Says, MaySay, SaysOr, text_elements}
 use Rattle.claim_tree.specs.JsonText.{Reads}
 use Rattle.claim_tree.proofs.Datas.{MembersRanged-inserted}
 use Rattle.claim_tree.proofs.OtherMembers.{named_other, named_gone, removed_absent, depth-removed, depth-member_named, named_inserted, other_inserted, removed_inserted, depth-inserted}

@@ -6,7 +6,7 @@ use Rattle.std.specs.Option.{is_some}
 use Rattle.b64url_text.specs.Base64url.{IsWord}
 use Rattle.claim_tree.specs.Tree.{Text, text, Tree, leaf, array, object, Elements, no_elements, element, Members, no_members, member_named, element_at, get}
 use Rattle.claim_tree.specs.Removed.{removed}
-use Rattle.claim_tree.specs.FileForms.{IsTexts, Says, MaySay, SaysOr}
+use Rattle.claim_tree.specs.TreeValues.{IsTexts, Says, MaySay, SaysOr}
 use Rattle.claim_tree.specs.JsonText.{Reads}
 use Rattle.compact_form.specs.Compact.{jwt, HasWords}
 use Rattle.refusals.specs.PartWords.{part_word}

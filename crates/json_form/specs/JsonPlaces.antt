@@ -2,7 +2,7 @@
 -- which they are judged.
 use Rattle.std.specs.Prelude.{◌≡◌, ◌≢◌, ◌+◌, ℕ, true, Some, None}
 use Rattle.claim_tree.specs.Tree.{Text, Tree, array, object, Elements, element, Members}
-use Rattle.claim_tree.specs.FileForms.{HasValue}
+use Rattle.claim_tree.specs.TreeValues.{HasValue}
 use Rattle.claim_tree.specs.JsonText.{Reads, IsNotJson, IsNotWhole}
 use Rattle.refusals.specs.declared.fault.Part.TheVariants.{Payload, Protected, Signature, Signatures, Header, Disclosures, KbJwt}
 use Rattle.refusals.specs.declared.fault.Part.{Part}

@@ -1,7 +1,7 @@
 -- For private functions: what is read of the members of an object.
 use Rattle.std.specs.Prelude.{◌≡◌, ℕ, false, Option, Some, None}
 use Rattle.claim_tree.specs.Tree.{Tree, object, Elements, element, Members}
-use Rattle.claim_tree.specs.FileForms.{Says}
+use Rattle.claim_tree.specs.TreeValues.{Says}
 use Rattle.sd_outside.specs.Lists.{IsLeast, AtNone}
 use Rattle.claim_tree.specs.declared.text.ReadError.{ReadError}
 use Rattle.refusals.specs.declared.fault.Part.TheVariants.{Payload, Signatures}

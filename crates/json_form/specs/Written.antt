@@ -2,7 +2,7 @@
 -- which the text is the compact JSON.
 use Rattle.std.specs.Prelude.{Option, Some, None}
 use Rattle.claim_tree.specs.Tree.{text, Tree, leaf, array, object, no_elements, element, Members, no_members, member, inserted}
-use Rattle.claim_tree.specs.FileForms.{text_elements}
+use Rattle.claim_tree.specs.TreeValues.{text_elements}
 use Rattle.compact_form.specs.Compact.{jwt}
 use Rattle.refusals.specs.PartWords.{part_word}
 use Rattle.compact_form.specs.declared.parts.JwtParts.{JwtParts}

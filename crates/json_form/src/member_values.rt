@@ -1,7 +1,7 @@
 // What single members of a JSON serialization say.
 ghost use Rattle.std.specs.Prelude.{IfOk, IfSome, IfNone};
 ghost use Rattle.claim_tree.specs.View.{tree_of};
-ghost use Rattle.claim_tree.specs.FileForms.{HasValue};
+ghost use Rattle.claim_tree.specs.TreeValues.{HasValue};
 ghost use Rattle.json_form.specs.Json.{IsWordTree, AreWordTrees, IsJwtTree};
 
 use b64url_text::is_word;

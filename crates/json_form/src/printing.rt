@@ -1,7 +1,7 @@
 // The JSON serializations, written.
 ghost use Rattle.std.specs.Prelude.{◌≡◌, ◌≤◌, OnOk, IfOk};
 ghost use Rattle.claim_tree.specs.Tree.{leaf, text as text_leaf, inserted, members_depth};
-ghost use Rattle.claim_tree.specs.FileForms.{text_elements};
+ghost use Rattle.claim_tree.specs.TreeValues.{text_elements};
 ghost use Rattle.claim_tree.specs.JsonText.{json_text};
 ghost use Rattle.claim_tree.specs.View.{tree_of};
 ghost use Rattle.refusals.specs.PartWords.{part_word};

@@ -2,7 +2,7 @@
 ghost use Rattle.std.specs.Prelude.{◌≡◌, [], IfOk, IfErr, IsErrOf};
 ghost use Rattle.claim_tree.specs.Tree.{no_members};
 ghost use Rattle.claim_tree.specs.Removed.{removed};
-ghost use Rattle.claim_tree.specs.FileForms.{Says, MaySay, SaysOr};
+ghost use Rattle.claim_tree.specs.TreeValues.{Says, MaySay, SaysOr};
 ghost use Rattle.refusals.specs.PartWords.{part_word};
 ghost use Rattle.refusals.specs.declared.fault.JsonPlace.{JsonPlace as ThePlace};
 ghost use Rattle.refusals.specs.declared.fault.Part.TheVariants.{Header, Disclosures, KbJwt};

@@ -1,7 +1,7 @@
 -- The texts that a file gives for a key binding token: an audience, a nonce.
 use Rattle.std.specs.Prelude.{◌≤◌, length}
 use Rattle.claim_tree.specs.Tree.{Text, Tree}
-use Rattle.claim_tree.specs.FileForms.{IsText}
+use Rattle.claim_tree.specs.TreeValues.{IsText}
 use Rattle.sd_outside.specs.Limits.{binding_text_max}
 
 -- the tree is this text, of no more bytes than it may have

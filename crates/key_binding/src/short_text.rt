@@ -1,7 +1,7 @@
 // The texts that a file gives for a key binding token.
 ghost use Rattle.std.specs.Prelude.{IfOk, IfSome, IfNone};
 ghost use Rattle.claim_tree.specs.Tree.{Text, member_named};
-ghost use Rattle.claim_tree.specs.FileForms.{Says};
+ghost use Rattle.claim_tree.specs.TreeValues.{Says};
 ghost use Rattle.key_binding.specs.ShortText.{IsShortText};
 
 use claim_tree::{Tree, TreeMap};

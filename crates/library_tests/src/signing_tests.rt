@@ -1,7 +1,7 @@
 // Signatures that are made apart from the texts that they are over.
 ghost use Rattle.std.specs.Prelude.{◌<◌, length, IfOk};
 
-use claim_tree::{Field, FileFault};
+use file_members::{Field, FileFault};
 use compact_form::print;
 use disclosure::HashAlg;
 use hmac_sign::{Alg, HsKey, Signer, UnsignedJwt};

@@ -1,7 +1,7 @@
 -- Where a list was read, its text is that of no other.
 use Rattle.std.proofs.Common.{◌≡◌, ◌≢◌, List, ℕ, Option, Some, None, Result, Ok, Err, sym, ◌∙◌}
 use Rattle.std.specs.Prelude.{IfOk, IfNone}
-use Rattle.claim_tree.specs.FileForms.{text_elements}
+use Rattle.claim_tree.specs.TreeValues.{text_elements}
 use Rattle.claim_tree.specs.JsonText.{Reads}
 use Rattle.claim_tree.specs.ListViews.{elements_of}
 use Rattle.claim_tree.specs.Tree.{Text, Elements, array}

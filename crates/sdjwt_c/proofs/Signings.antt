@@ -2,7 +2,7 @@
 use Rattle.std.proofs.Common.{◌≡◌, ℕ, List, inl, inr, refl, subst}
 use Rattle.std.specs.Array.{IsFirstChunk}
 use Rattle.std.specs.Prelude.{Result, Err, IfErr}
-use Rattle.claim_tree.specs.declared.file_fault.FileFault.{FileFault}
+use Rattle.file_members.specs.declared.file_fault.FileFault.{FileFault}
 use Rattle.cli_parts.specs.Stops.{OnRefused, OnUnreadable}
 use Rattle.cli_parts.specs.Telling.{TellsFileFault}
 use Rattle.cli_parts.specs.declared.stop.Stop.{Stop}

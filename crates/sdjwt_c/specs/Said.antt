@@ -1,11 +1,11 @@
 -- Not needed to believe the program's promises: the algorithms that are taken
 -- of a holder, as C says them.
 use Rattle.std.specs.Prelude.{◌≡◌, ◌≢◌, ℕ, List, [], ◌∷◌}
-use Rattle.claim_tree.specs.FileForms.{IsTexts}
+use Rattle.claim_tree.specs.TreeValues.{IsTexts}
 use Rattle.claim_tree.specs.JsonText.{Reads}
 use Rattle.claim_tree.specs.Tree.{Text, Tree}
-use Rattle.claim_tree.specs.declared.file_fault.Field.TheVariants.{Algs}
-use Rattle.claim_tree.specs.declared.file_fault.FileFault.TheVariants.{Wrong}
+use Rattle.file_members.specs.declared.field.Field.TheVariants.{Algs}
+use Rattle.file_members.specs.declared.file_fault.FileFault.TheVariants.{Wrong}
 use Rattle.cli_parts.specs.Lines.{unreadable_line}
 use Rattle.verifier_core.specs.declared.policy.Policy.{Policy}
 

@@ -1,7 +1,7 @@
 -- Not needed to believe the program's promises: what is told of a token that someone else signs.
 use Rattle.std.specs.Prelude.{◌≡◌, ◌≢◌, ◌<◌, ◌≤◌, ◌⊎◌, ◌++◌, ℕ, List, [], codes, length, take}
 use Rattle.std.specs.Str.{IsUtf8}
-use Rattle.claim_tree.specs.declared.file_fault.FileFault.{FileFault}
+use Rattle.file_members.specs.declared.file_fault.FileFault.{FileFault}
 use Rattle.cli_parts.specs.Lines.{line, unreadable_line, short_seed}
 use Rattle.cli_parts.specs.Replies.{Reply, Replies}
 use Rattle.compact_form.specs.Compact.{compact}

@@ -5,7 +5,9 @@ ghost use Rattle.cli_parts.specs.Stops.{OnUnreadable, NotRefused, NotUnread};
 ghost use Rattle.sdjwt_c.specs.Numbers.{answer_numbered, answers_numbered};
 ghost use Rattle.sdjwt_c.specs.Said.{SaysAlgs, SaysNoAlgs, IsListText, IsNoListText};
 
-use claim_tree::{Field, FileFault, ReadError, Tree, read, texts_of};
+use claim_tree::{ReadError, Tree, read, texts_of};
+
+use file_members::{Field, FileFault};
 use cli_parts::{Stop, unreadable_line};
 use key_binding::SignatureAnswer;
 use sd_outside::{NoMemory, TextBox, TextList};

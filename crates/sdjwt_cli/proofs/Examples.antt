@@ -18,8 +18,8 @@ use Rattle.disclosure.specs.declared.digests.HashAlg.{HashAlg}
 use Rattle.disclosure.proofs.Examples.{salt, value, a_disclosure, its_digest}
 use Rattle.jws_part.proofs.Examples.{alg_alone, a_head, a_header, sd_alg_alone, a_body}
 use Rattle.jws_part.proofs.Headers.{read_not_unreadable}
-use Rattle.claim_tree.specs.declared.file_fault.Field.TheVariants.{Keys}
-use Rattle.claim_tree.specs.declared.file_fault.FileFault.TheVariants.{NotJson, Missing}
+use Rattle.file_members.specs.declared.field.Field.TheVariants.{Keys}
+use Rattle.file_members.specs.declared.file_fault.FileFault.TheVariants.{NotJson, Missing}
 use Rattle.holder_core.specs.declared.errors.PresentError.TheVariants.{HasBinding, ConsentRefused}
 use Rattle.issuer_core.specs.declared.errors.IssueError.TheVariants.{ReservedName, DigestClash, TooLong as IssueTooLong}
 use Rattle.issuer_core.specs.RefusalLine.{issue_refusal_text}

@@ -2,8 +2,9 @@
 use Rattle.std.proofs.Common.{◌≡◌, ℕ, ◌<◌, ◌≤◌, ◌^◌, List, length, Option, None, Some, is_some, codes, sym, ap, subst}
 use Rattle.claim_tree.specs.Tree.{Text, Tree, member_named}
 use Rattle.claim_tree.specs.JsonText.{json_text}
-use Rattle.claim_tree.specs.FileForms.{Says, MaySay, found}
-use Rattle.claim_tree.specs.declared.file_fault.Field.TheVariants.{Binding}
+use Rattle.claim_tree.specs.TreeValues.{Says, MaySay}
+use Rattle.file_members.specs.FileForms.{found}
+use Rattle.file_members.specs.declared.field.Field.TheVariants.{Binding}
 use Rattle.compact_form.specs.declared.parts.Parts.{Parts}
 use Rattle.compact_form.specs.Compact.{compact}
 use Rattle.hmac_sign.specs.Hmac.{hs256_key}

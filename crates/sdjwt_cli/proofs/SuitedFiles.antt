@@ -8,9 +8,9 @@ use Rattle.b64url_text.specs.Base64url.{letters, bits, sixes, b64, Decodes}
 use Rattle.b64url_text.proofs.Texts.{AreBytes-text}
 use Rattle.claim_tree.specs.declared.tree.Tree as code
 use Rattle.claim_tree.specs.Tree.{Text, Leaf, Tree, leaf, null, flag, text, whole, array, object, Elements, no_elements, element, Members, no_members, member, depth, IsOrdered, MembersOrdered, IsRanged, ElementsRanged, MembersRanged}
-use Rattle.claim_tree.specs.FileForms.{has_unknown, HasMembers}
+use Rattle.file_members.specs.FileForms.{has_unknown, HasMembers}
 use Rattle.claim_tree.specs.JsonText.{json_text, Reads}
-use Rattle.claim_tree.specs.declared.file_fault.Field.{Field}
+use Rattle.file_members.specs.declared.field.Field.{Field}
 use Rattle.sd_outside.specs.Limits.{file_max}
 use Rattle.hmac_sign.specs.Keys.{IsKeySet, key, no_keys}
 use Rattle.hmac_sign.specs.declared.alg.Alg.{Alg}

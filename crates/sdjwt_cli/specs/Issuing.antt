@@ -1,7 +1,7 @@
 -- The command `issue`: what it prints for an order file and a seed file, and
 -- when it refuses the order.
 use Rattle.std.specs.Prelude.{◌≡◌, ◌≢◌, ℕ, ◌<◌, ◌≤◌, List, length, take}
-use Rattle.claim_tree.specs.declared.file_fault.FileFault.{FileFault}
+use Rattle.file_members.specs.declared.file_fault.FileFault.{FileFault}
 use Rattle.sd_outside.specs.Limits.{count_max, issue_max, seed_len}
 use Rattle.compact_form.specs.declared.parts.Parts.{Parts}
 use Rattle.compact_form.specs.Compact.{compact, AreWords}

@@ -16,7 +16,7 @@ use crate::show::show;
 use crate::split::split;
 use crate::summary::summary;
 use crate::verify::verify;
-use cli_parts::{FETCH_MAX, Stop, fetch_file, finish, tell};
+use cli_parts::{FETCH_MAX, Stop, fetch_file, end_run, tell};
 use sd_outside::{Cabinet, Sink, Status};
 use std::alloc::Global;
 
@@ -89,5 +89,5 @@ pub fn run<C: Cabinet, O: Sink, E: Sink>(
     let Some(command) = Command::of(words) else {
         return tell(err, "usage\n", Status::Usage);
     };
-    finish(alloc, answer(alloc, cab, command, now), out, err)
+    end_run(alloc, answer(alloc, cab, command, now), out, err)
 }

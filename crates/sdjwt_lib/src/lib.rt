@@ -18,6 +18,7 @@
 //! | `refusals` | conditions and refusals, and the lines that tell of them |
 //! | `jws_part`, `disclosure` | its header and payload, and its disclosures |
 //! | `claim_tree`, `marked_tree` | JSON, and JSON that tells what each disclosure shows |
+//! | `file_members` | the members of policies, orders and queries, and why a file is refused |
 //! | `digest_index`, `digest_sites`, `rebuild_core` | digests and what stands behind them |
 //! | `sd_outside`, `b64url_text` | texts and bytes, and where they come from and go |
 //! | `sdjwt_cli`, `cli_parts` | the commands of the program, and what is around them |
@@ -41,6 +42,7 @@ pub use digest_sites;
 pub use disclosure;
 pub use end_to_end::{Holder, Issuer, issue_present_verify};
 pub use feed_core;
+pub use file_members;
 pub use hmac_sign;
 pub use holder_core;
 pub use issuer_core;

@@ -1,9 +1,9 @@
 -- The member of a policy file for key binding says one binding policy.
 use Rattle.std.proofs.Common.{◌≡◌, ℕ, List, sym, ap, subst, ◌∙◌, codes}
 use Rattle.claim_tree.specs.Tree.{Text, object, member_named}
-use Rattle.claim_tree.specs.FileForms.{IsWholeUpTo, Says}
-use Rattle.claim_tree.proofs.FileVerdicts as verdicts
-use Rattle.claim_tree.proofs.FileVerdicts.{SaysOne}
+use Rattle.claim_tree.specs.TreeValues.{IsWholeUpTo, Says}
+use Rattle.claim_tree.proofs.TreeValues as values
+use Rattle.claim_tree.proofs.TreeValues.{SaysOne}
 use Rattle.hmac_sign.specs.Keys.{IsKeySet}
 use Rattle.hmac_sign.specs.declared.key_set.NamedKey.{NamedKey}
 use Rattle.hmac_sign.proofs.KeySetVerdicts.{one_key_set}
@@ -24,8 +24,8 @@ one_binding version t b d h k =
     let both : object h.members ≡ object k.members = sym h.is ∙ k.is in
     let same : h.members ≡ k.members = cc both in
     let ms = k.members in
-    let aud : b.aud ≡ d.aud = verdicts.says_one (IsAudiences version) (member_named ms (codes "aud")) b.aud d.aud (one_audiences version) (subst (λ ns. Says (IsAudiences version) (member_named ns (codes "aud")) b.aud) same h.aud) k.aud in
-    let nonce : b.nonce ≡ d.nonce = verdicts.says_one IsShortText (member_named ms (codes "nonce")) b.nonce d.nonce one_short_text (subst (λ ns. Says IsShortText (member_named ns (codes "nonce")) b.nonce) same h.nonce) k.nonce in
-    let keys : b.keys ≡ d.keys = verdicts.says_one IsKeySet (member_named ms (codes "keys")) b.keys d.keys one_key_set (subst (λ ns. Says IsKeySet (member_named ns (codes "keys")) b.keys) same h.keys) k.keys in
-    let max_age : b.max_age ≡ d.max_age = verdicts.says_one (IsWholeUpTo age_max) (member_named ms (codes "max_age")) b.max_age d.max_age (verdicts.one_whole age_max) (subst (λ ns. Says (IsWholeUpTo age_max) (member_named ns (codes "max_age")) b.max_age) same h.max_age) k.max_age in
+    let aud : b.aud ≡ d.aud = values.says_one (IsAudiences version) (member_named ms (codes "aud")) b.aud d.aud (one_audiences version) (subst (λ ns. Says (IsAudiences version) (member_named ns (codes "aud")) b.aud) same h.aud) k.aud in
+    let nonce : b.nonce ≡ d.nonce = values.says_one IsShortText (member_named ms (codes "nonce")) b.nonce d.nonce one_short_text (subst (λ ns. Says IsShortText (member_named ns (codes "nonce")) b.nonce) same h.nonce) k.nonce in
+    let keys : b.keys ≡ d.keys = values.says_one IsKeySet (member_named ms (codes "keys")) b.keys d.keys one_key_set (subst (λ ns. Says IsKeySet (member_named ns (codes "keys")) b.keys) same h.keys) k.keys in
+    let max_age : b.max_age ≡ d.max_age = values.says_one (IsWholeUpTo age_max) (member_named ms (codes "max_age")) b.max_age d.max_age (values.one_whole age_max) (subst (λ ns. Says (IsWholeUpTo age_max) (member_named ns (codes "max_age")) b.max_age) same h.max_age) k.max_age in
     ap (λ x. binding_made x b.nonce b.keys b.max_age) aud ∙ (ap (λ x. binding_made d.aud x b.keys b.max_age) nonce ∙ (ap (λ x. binding_made d.aud d.nonce x b.max_age) keys ∙ ap (λ x. binding_made d.aud d.nonce d.keys x) max_age))

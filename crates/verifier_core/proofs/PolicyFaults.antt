@@ -2,13 +2,14 @@
 use Rattle.std.proofs.Common.{◌≡◌, ◌↔◌, ℕ, suc, pos, List, take, drop, codes, [], ◌∷◌, ◌++◌, Option, Some, None, refl, sym, ap, subst, ◌∙◌}
 use Rattle.sd_outside.specs.Limits.{file_max, skew_max}
 use Rattle.claim_tree.specs.Tree.{Text, leaf, whole, Tree, Members}
-use Rattle.claim_tree.specs.FileForms.{IsText, IsTexts, IsWholeUpTo, Says, MaySay, SaysOr, MemberMeets, Entry, required, optional, fields_of, found, MemberFails, missing, wrong, IsFirstFault, HasFirstFault, HasMembers, IsFileRefused}
-use Rattle.claim_tree.specs.FileRefusals.{IsMemberRefused}
-use Rattle.claim_tree.specs.declared.file_fault.Field.TheVariants.{Version, Keys, Algs, Typ, Iss, Require, Skew, Binding}
-use Rattle.claim_tree.specs.declared.file_fault.FileFault.{FileFault}
-use Rattle.claim_tree.specs.declared.file_fault.FileFault.TheVariants.{Memory, TooLong, NotJson, NotWhole, NotObject, Unknown, Missing, Wrong}
-use Rattle.claim_tree.proofs.FileMembers.{AllMeet, member_refused, says_meets, may_say_meets, says_or_meets}
-use Rattle.claim_tree.proofs.FileVerdicts as verdicts
+use Rattle.claim_tree.specs.TreeValues.{IsText, IsTexts, IsWholeUpTo, Says, MaySay, SaysOr}
+use Rattle.file_members.specs.FileForms.{MemberMeets, Entry, required, optional, fields_of, found, MemberFails, missing, wrong, IsFirstFault, HasFirstFault, HasMembers, IsFileRefused}
+use Rattle.file_members.specs.FileRefusals.{IsMemberRefused}
+use Rattle.file_members.specs.declared.field.Field.TheVariants.{Version, Keys, Algs, Typ, Iss, Require, Skew, Binding}
+use Rattle.file_members.specs.declared.file_fault.FileFault.{FileFault}
+use Rattle.file_members.specs.declared.file_fault.FileFault.TheVariants.{Memory, TooLong, NotJson, NotWhole, NotObject, Unknown, Missing, Wrong}
+use Rattle.file_members.proofs.FileMembers.{AllMeet, member_refused, says_meets, may_say_meets, says_or_meets}
+use Rattle.file_members.proofs.FileVerdicts as verdicts
 use Rattle.hmac_sign.specs.Keys.{IsKeySet}
 use Rattle.hmac_sign.specs.declared.key_set.NamedKey.{NamedKey}
 use Rattle.verifier_core.specs.PolicyFile.{IsBindingPolicy, policy_table, policy_fields, IsReadAs, HasPolicyFault, IsPolicyFileRefused}

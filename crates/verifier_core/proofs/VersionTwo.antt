@@ -5,9 +5,10 @@ use Rattle.std.proofs.lemmas.Bool.{or_left, or_right}
 use Rattle.sd_outside.specs.Limits.{age_max, binding_text_max, file_max, skew_max}
 use Rattle.claim_tree.specs.Tree.{Text, leaf, whole, array, object, Tree, no_elements, element, Members, no_members, member, members_len, names, member_named}
 use Rattle.sd_outside.specs.Lists.{In}
-use Rattle.claim_tree.specs.FileForms.{IsText, IsTexts, IsWholeUpTo, text_elements, Says, MaySay, SaysOr, found, is_known, has_unknown}
-use Rattle.claim_tree.specs.declared.file_fault.Field.TheVariants.{Version, Iss, Binding}
-use Rattle.claim_tree.proofs.FileVerdicts as verdicts
+use Rattle.claim_tree.specs.TreeValues.{IsText, IsTexts, IsWholeUpTo, text_elements, Says, MaySay, SaysOr}
+use Rattle.file_members.specs.FileForms.{found, is_known, has_unknown}
+use Rattle.file_members.specs.declared.field.Field.TheVariants.{Version, Iss, Binding}
+use Rattle.file_members.proofs.FileVerdicts as verdicts
 use Rattle.sd_outside.proofs.Lists.{bytes_same, bytes_refl, list_any-In}
 use Rattle.hmac_sign.specs.Keys.{IsKeySet}
 use Rattle.key_binding.specs.ShortText.{IsShortText}

@@ -2,11 +2,12 @@
 use Rattle.std.specs.Prelude.{◌≡◌, ◌≢◌, pos, List, [], ◌∷◌, Option, Some, codes}
 use Rattle.sd_outside.specs.Limits.{age_max, file_max, skew_max}
 use Rattle.claim_tree.specs.Tree.{Text, Tree, leaf, whole, object, Members, members_len, member_named}
-use Rattle.claim_tree.specs.FileForms.{IsText, IsTexts, IsWholeUpTo, Says, MaySay, SaysOr, Entry, required, optional, fields_of, found, HasMembers, HasNoMembers, IsFirstFault}
-use Rattle.claim_tree.specs.declared.file_fault.Field.{Field}
-use Rattle.claim_tree.specs.declared.file_fault.Field.TheVariants.{Version, Keys, Algs, Typ, Iss, Require, Skew, Binding}
-use Rattle.claim_tree.specs.declared.file_fault.FileFault.{FileFault}
-use Rattle.claim_tree.specs.declared.file_fault.FileFault.TheVariants.{Missing, Wrong}
+use Rattle.claim_tree.specs.TreeValues.{IsText, IsTexts, IsWholeUpTo, Says, MaySay, SaysOr}
+use Rattle.file_members.specs.FileForms.{Entry, required, optional, fields_of, found, HasMembers, HasNoMembers, IsFirstFault}
+use Rattle.file_members.specs.declared.field.Field.{Field}
+use Rattle.file_members.specs.declared.field.Field.TheVariants.{Version, Keys, Algs, Typ, Iss, Require, Skew, Binding}
+use Rattle.file_members.specs.declared.file_fault.FileFault.{FileFault}
+use Rattle.file_members.specs.declared.file_fault.FileFault.TheVariants.{Missing, Wrong}
 use Rattle.hmac_sign.specs.Keys.{IsKeySet}
 use Rattle.key_binding.specs.ShortText.{IsShortText}
 use Rattle.key_binding.specs.declared.policy.BindingPolicy.{BindingPolicy}

@@ -4,7 +4,7 @@ use Rattle.std.specs.Prelude.{◌≡◌, ◌≤◌, pos, List, [], ◌∷◌, le
 use Rattle.sd_outside.specs.Limits.{audiences_max, binding_text_max}
 use Rattle.claim_tree.specs.Tree.{Text, whole, leaf, Tree}
 use Rattle.sd_outside.specs.Lists.{In}
-use Rattle.claim_tree.specs.FileForms.{IsText, IsTexts}
+use Rattle.claim_tree.specs.TreeValues.{IsText, IsTexts}
 use Rattle.key_binding.specs.ShortText.{IsShortText}
 use Rattle.verifier_core.specs.declared.policy_version.PolicyVersion.{PolicyVersion}
 

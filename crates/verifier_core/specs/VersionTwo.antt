@@ -2,9 +2,9 @@
 -- with the same members.
 use Rattle.std.specs.Prelude.{◌≡◌, ◌≢◌, pos, Option, Some, None, codes, option_map}
 use Rattle.claim_tree.specs.Tree.{Text, leaf, whole, array, object, Tree, no_elements, element, Members, members_len, member_named}
-use Rattle.claim_tree.specs.FileForms.{found}
+use Rattle.file_members.specs.FileForms.{found}
 use Rattle.claim_tree.specs.JsonText.{Reads}
-use Rattle.claim_tree.specs.declared.file_fault.Field.TheVariants.{Version, Iss, Binding}
+use Rattle.file_members.specs.declared.field.Field.TheVariants.{Version, Iss, Binding}
 use Rattle.verifier_core.specs.PolicyFile.{IsReadAs}
 use Rattle.verifier_core.specs.declared.policy_version.PolicyVersion.{PolicyVersion}
 

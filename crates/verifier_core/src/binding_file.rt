@@ -1,17 +1,19 @@
 // What a policy file says of key binding.
 ghost use Rattle.std.specs.Prelude.{List, ℕ, codes, IfOk, IfErr, IfSome, IfNone};
 ghost use Rattle.sd_outside.specs.Limits.{age_max};
-ghost use Rattle.claim_tree.specs.FileForms.{IsWholeUpTo, HasValue, Says, MaySay, optional, found};
-ghost use Rattle.claim_tree.specs.FileRefusals.{IsMemberRefused};
+ghost use Rattle.claim_tree.specs.TreeValues.{IsWholeUpTo, HasValue, Says, MaySay};
+ghost use Rattle.file_members.specs.FileForms.{optional, found};
+ghost use Rattle.file_members.specs.FileRefusals.{IsMemberRefused};
 ghost use Rattle.claim_tree.specs.Tree.{member_named};
 ghost use Rattle.claim_tree.specs.View.{tree_of};
-ghost use Rattle.claim_tree.specs.declared.file_fault.Field.TheVariants.{Binding};
+ghost use Rattle.file_members.specs.declared.field.Field.TheVariants.{Binding};
 ghost use Rattle.hmac_sign.specs.Keys.{IsKeySet};
 ghost use Rattle.hmac_sign.specs.declared.key_set.NamedKey.{NamedKey};
 ghost use Rattle.verifier_core.specs.PolicyFile.{IsBindingPolicy};
 
 use crate::policy_version::{PolicyVersion, audiences_in};
-use claim_tree::{Field, FileFault, Tree, TreeMap, whole_up_to};
+use claim_tree::{Tree, TreeMap, whole_up_to};
+use file_members::{Field, FileFault};
 use hmac_sign::{KeySet, KeySetError};
 use key_binding::{BindingPolicy, short_text_in};
 use sd_outside::NoMemory;

@@ -1,7 +1,7 @@
 //! What the definitions of conditions and policies say together. Each law holds for every value.
 ghost use Rattle.std.specs.Prelude.{◌≡◌, ◌≢◌, ◌≤◌, ℕ, List, false, length};
 ghost use Rattle.sd_outside.specs.Limits.{file_max};
-ghost use Rattle.claim_tree.specs.declared.file_fault.FileFault.{FileFault};
+ghost use Rattle.file_members.specs.declared.file_fault.FileFault.{FileFault};
 ghost use Rattle.claim_tree.specs.JsonText.{json_text};
 ghost use Rattle.claim_tree.specs.Tree.{Tree, no_members};
 ghost use Rattle.compact_form.specs.Compact.{compact};

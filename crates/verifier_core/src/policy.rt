@@ -1,9 +1,10 @@
 // The policy of a verifier, and the file that says it.
 ghost use Rattle.std.specs.Prelude.{◌≡◌, [], ◌∷◌, codes, IfOk, IfErr, option_map};
 ghost use Rattle.sd_outside.specs.Limits.{skew_max};
-ghost use Rattle.claim_tree.specs.FileForms.{IsTexts, IsWholeUpTo, SaysOr, optional, found};
-ghost use Rattle.claim_tree.specs.FileRefusals.{IsMemberRefused};
-ghost use Rattle.claim_tree.specs.declared.file_fault.Field.TheVariants.{Algs, Require, Skew};
+ghost use Rattle.claim_tree.specs.TreeValues.{IsTexts, IsWholeUpTo, SaysOr};
+ghost use Rattle.file_members.specs.FileForms.{optional, found};
+ghost use Rattle.file_members.specs.FileRefusals.{IsMemberRefused};
+ghost use Rattle.file_members.specs.declared.field.Field.TheVariants.{Algs, Require, Skew};
 ghost use Rattle.verifier_core.specs.PolicyFile.{IsPolicyFile, IsPolicyFileRefused};
 ghost use Rattle.key_binding.specs.Judged.{binding_rules};
 ghost use Rattle.key_binding.specs.JudgedSteps.{rules_seen};
@@ -13,9 +14,8 @@ use crate::Rules;
 use crate::binding_file::binding_member;
 use crate::policy_version::{issuers_member, version_member};
 use crate::rules::Demands;
-use claim_tree::{
-    Field, FileFault, TreeMap, read_members, text_list_member, text_member, whole_member,
-};
+use claim_tree::TreeMap;
+use file_members::{Field, FileFault, read_members, text_list_member, text_member, whole_member};
 use compact_form::FILE_MAX;
 use hmac_sign::{KeySet, keys_member};
 use key_binding::{BindingPolicy, BindingRules};

@@ -1,14 +1,17 @@
 // What the version of a policy file decides: in which form it names issuers and audiences.
 ghost use Rattle.std.specs.Prelude.{◌≡◌, ◌↔◌, [], ◌∷◌, List, codes, IfOk, IfErr, IfSome, IfNone, IsTrue};
 ghost use Rattle.claim_tree.specs.Tree.{Text, member_named};
-ghost use Rattle.claim_tree.specs.FileForms.{HasValue, Says, MaySay, SaysOr, optional, found};
-ghost use Rattle.claim_tree.specs.FileRefusals.{IsMemberRefused};
+ghost use Rattle.claim_tree.specs.TreeValues.{HasValue, Says, MaySay, SaysOr};
+ghost use Rattle.file_members.specs.FileForms.{optional, found};
+ghost use Rattle.file_members.specs.FileRefusals.{IsMemberRefused};
 ghost use Rattle.claim_tree.specs.View.{tree_of};
-ghost use Rattle.claim_tree.specs.declared.file_fault.Field.TheVariants.{Iss, Version};
+ghost use Rattle.file_members.specs.declared.field.Field.TheVariants.{Iss, Version};
 ghost use Rattle.verifier_core.specs.PolicyVersion.{IsVersion, IsIssuers, IsAudiences, AreAudiences, AreShortTexts};
 ghost use Rattle.verifier_core.specs.declared.policy_version.PolicyVersion as seen;
 
-use claim_tree::{Field, FileFault, Tree, TreeMap, texts_of, whole_up_to};
+use claim_tree::{Tree, TreeMap, texts_of, whole_up_to};
+
+use file_members::{Field, FileFault};
 use key_binding::{BINDING_TEXT_MAX, short_text_in};
 use sd_outside::{NoMemory, TextBox, TextList};
 use std::alloc::Global;

@@ -4,14 +4,15 @@ use Rattle.sd_outside.specs.Limits.{file_max}
 use Rattle.claim_tree.specs.Tree as spec
 use Rattle.claim_tree.specs.Tree.{Text, null, flag, whole, text, leaf, array, object, member_named}
 use Rattle.claim_tree.specs.View.{tree_of}
-use Rattle.claim_tree.specs.FileForms.{Says, SaysOr, found}
-use Rattle.claim_tree.specs.FileLists.{IsListOf, IsPointer}
-use Rattle.claim_tree.specs.declared.file_fault.Field.TheVariants.{Keys, Want, Equal, Never}
-use Rattle.claim_tree.specs.declared.file_fault.FileFault.{FileFault}
+use Rattle.claim_tree.specs.TreeValues.{Says, SaysOr, IsListOf, IsPointer}
+use Rattle.file_members.specs.FileForms.{found}
+use Rattle.file_members.specs.declared.field.Field.TheVariants.{Keys, Want, Equal, Never}
+use Rattle.file_members.specs.declared.file_fault.FileFault.{FileFault}
 use Rattle.claim_tree.specs.declared.tree.Tree as code
-use Rattle.claim_tree.proofs.FileMembers.{says_meets, says_or_meets}
-use Rattle.claim_tree.proofs.FileVerdicts as verdicts
-use Rattle.claim_tree.proofs.FileVerdicts.{SaysOne}
+use Rattle.file_members.proofs.FileMembers.{says_meets, says_or_meets}
+use Rattle.claim_tree.proofs.TreeValues as values
+use Rattle.file_members.proofs.FileVerdicts as verdicts
+use Rattle.claim_tree.proofs.TreeValues.{SaysOne}
 use Rattle.claim_tree.proofs.ListForms.{one_list, one_pointer}
 use Rattle.hmac_sign.specs.Keys.{IsKeySet}
 use Rattle.hmac_sign.specs.declared.key_set.NamedKey.{NamedKey}
@@ -54,8 +55,8 @@ unfolding equal_made
 one_equal t d e h k =
     let both : object h.members ≡ object k.members = sym h.is ∙ k.is in
     let same : h.members ≡ k.members = cc both in
-    let at : d.at ≡ e.at = verdicts.says_one IsPointer (member_named k.members (codes "at")) d.at e.at one_pointer (subst (λ ns. Says IsPointer (member_named ns (codes "at")) d.at) same h.at) k.at in
-    let value : d.value ≡ e.value = verdicts.says_one IsPlain (member_named k.members (codes "value")) d.value e.value one_plain (subst (λ ns. Says IsPlain (member_named ns (codes "value")) d.value) same h.value) k.value in
+    let at : d.at ≡ e.at = values.says_one IsPointer (member_named k.members (codes "at")) d.at e.at one_pointer (subst (λ ns. Says IsPointer (member_named ns (codes "at")) d.at) same h.at) k.at in
+    let value : d.value ≡ e.value = values.says_one IsPlain (member_named k.members (codes "value")) d.value e.value one_plain (subst (λ ns. Says IsPlain (member_named ns (codes "value")) d.value) same h.value) k.value in
     ap (λ x. equal_made x d.value) at ∙ ap (λ x. equal_made e.at x) value
 
 -- ---- the file
@@ -68,10 +69,10 @@ unfolding made
 one_query bytes p q h k =
     let same : h.members ≡ k.members = verdicts.one_object file_max bytes h.members k.members h.file.object k.file.object in
     let ms = k.members in
-    let keys : p.query.keys ≡ q.query.keys = verdicts.says_one IsKeySet (found ms Keys) p.query.keys q.query.keys one_key_set (subst (λ ns. Says IsKeySet (found ns Keys) p.query.keys) same h.keys) k.keys in
-    let want : p.query.want ≡ q.query.want = verdicts.says_or_one (IsListOf IsPointer) [] (found ms Want) p.query.want q.query.want (one_list IsPointer one_pointer) (subst (λ ns. SaysOr (IsListOf IsPointer) [] (found ns Want) p.query.want) same h.want) k.want in
-    let equal : p.query.equal ≡ q.query.equal = verdicts.says_or_one (IsListOf IsEqual) [] (found ms Equal) p.query.equal q.query.equal (one_list IsEqual one_equal) (subst (λ ns. SaysOr (IsListOf IsEqual) [] (found ns Equal) p.query.equal) same h.equal) k.equal in
-    let never : p.never ≡ q.never = verdicts.says_or_one (IsListOf IsPointer) [] (found ms Never) p.never q.never (one_list IsPointer one_pointer) (subst (λ ns. SaysOr (IsListOf IsPointer) [] (found ns Never) p.never) same h.never) k.never in
+    let keys : p.query.keys ≡ q.query.keys = values.says_one IsKeySet (found ms Keys) p.query.keys q.query.keys one_key_set (subst (λ ns. Says IsKeySet (found ns Keys) p.query.keys) same h.keys) k.keys in
+    let want : p.query.want ≡ q.query.want = values.says_or_one (IsListOf IsPointer) [] (found ms Want) p.query.want q.query.want (one_list IsPointer one_pointer) (subst (λ ns. SaysOr (IsListOf IsPointer) [] (found ns Want) p.query.want) same h.want) k.want in
+    let equal : p.query.equal ≡ q.query.equal = values.says_or_one (IsListOf IsEqual) [] (found ms Equal) p.query.equal q.query.equal (one_list IsEqual one_equal) (subst (λ ns. SaysOr (IsListOf IsEqual) [] (found ns Equal) p.query.equal) same h.equal) k.equal in
+    let never : p.never ≡ q.never = values.says_or_one (IsListOf IsPointer) [] (found ms Never) p.never q.never (one_list IsPointer one_pointer) (subst (λ ns. SaysOr (IsListOf IsPointer) [] (found ns Never) p.never) same h.never) k.never in
     ap (λ x. made x p.query.want p.query.equal p.never) keys
     ∙ (ap (λ x. made q.query.keys x p.query.equal p.never) want
     ∙ (ap (λ x. made q.query.keys q.query.want x p.never) equal ∙ ap (λ x. made q.query.keys q.query.want q.query.equal x) never))

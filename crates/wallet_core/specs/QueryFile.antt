@@ -3,11 +3,11 @@ use Rattle.std.specs.Prelude.{◌≡◌, List, [], ◌∷◌, codes}
 use Rattle.sd_outside.specs.Limits.{file_max}
 use Rattle.claim_tree.specs.Tree.{Text, Tree, Leaf, leaf, object, Members, members_len, member_named}
 use Rattle.claim_tree.specs.View.{tree_of}
-use Rattle.claim_tree.specs.FileForms.{Says, SaysOr, Entry, required, optional, fields_of, found, HasMembers, IsFileRefused}
-use Rattle.claim_tree.specs.FileLists.{IsListOf, IsPointer}
+use Rattle.claim_tree.specs.TreeValues.{Says, SaysOr, IsListOf, IsPointer}
+use Rattle.file_members.specs.FileForms.{Entry, required, optional, fields_of, found, HasMembers, IsFileRefused}
 use Rattle.claim_tree.specs.declared.tree.Tree as code
-use Rattle.claim_tree.specs.declared.file_fault.Field.TheVariants.{Keys, Want, Equal, Never}
-use Rattle.claim_tree.specs.declared.file_fault.FileFault.{FileFault}
+use Rattle.file_members.specs.declared.field.Field.TheVariants.{Keys, Want, Equal, Never}
+use Rattle.file_members.specs.declared.file_fault.FileFault.{FileFault}
 use Rattle.hmac_sign.specs.Keys.{IsKeySet}
 use Rattle.wallet_core.specs.declared.query.Equal as query
 use Rattle.wallet_core.specs.declared.query_file.QueryFile.{QueryFile}

@@ -23,7 +23,7 @@ use claim_tree::{Path, PathList, copy_paths};
 use compact_form::Parts;
 use digest_index::Steps;
 use hmac_sign::KeySet;
-use holder_core::{PresentError, check_held, picked_parts};
+use holder_core::{PresentError, check_held, parts_with_chosen};
 use json_form::{TokenError, TokenText, TokenView};
 use marked_tree::{ChosenSet, Marked};
 use sd_outside::NoMemory;
@@ -150,7 +150,7 @@ fn token_parts<F: Fn(&Path) -> bool>(
         return Ok(None);
     };
     match chosen_marks(alloc, &marked, query, asked, consent)? {
-        Some(chosen) => Ok(Some(picked_parts(alloc, token, &chosen)?)),
+        Some(chosen) => Ok(Some(parts_with_chosen(alloc, token, &chosen)?)),
         None => Ok(None),
     }
 }

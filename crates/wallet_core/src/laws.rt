@@ -4,7 +4,7 @@ ghost use Rattle.std.specs.List.{AllZip};
 ghost use Rattle.std.specs.Io.KnownBytes.{Appends};
 ghost use Rattle.sd_outside.specs.Causes.{Rose};
 ghost use Rattle.sd_outside.specs.declared.status.Status.{Status};
-ghost use Rattle.claim_tree.specs.declared.file_fault.FileFault.{FileFault};
+ghost use Rattle.file_members.specs.declared.file_fault.FileFault.{FileFault};
 ghost use Rattle.cli_parts.specs.Outside.{Outside};
 ghost use Rattle.cli_parts.specs.Replies.{Reply, gives};
 ghost use Rattle.cli_parts.specs.Told.{IsFileTold};

@@ -2,17 +2,16 @@
 ghost use Rattle.std.specs.Prelude.{[], List, IfOk, IfErr, IfSome, IfNone};
 ghost use Rattle.claim_tree.specs.View.{tree_of};
 ghost use Rattle.claim_tree.specs.ListViews.{elements_of};
-ghost use Rattle.claim_tree.specs.FileForms.{HasValue, SaysOr, optional, found};
-ghost use Rattle.claim_tree.specs.FileLists.{IsListOf, EachSays};
-ghost use Rattle.claim_tree.specs.FileRefusals.{IsMemberRefused};
-ghost use Rattle.claim_tree.specs.declared.file_fault.Field.TheVariants as field;
+ghost use Rattle.claim_tree.specs.TreeValues.{HasValue, SaysOr, IsListOf, EachSays};
+ghost use Rattle.file_members.specs.FileForms.{optional, found};
+ghost use Rattle.file_members.specs.FileRefusals.{IsMemberRefused};
+ghost use Rattle.file_members.specs.declared.field.Field.TheVariants as field;
 ghost use Rattle.wallet_core.specs.QueryFile.{IsPlain, IsEqual, IsQueryFile, IsQueryFileRefused};
 ghost use Rattle.wallet_core.specs.declared.query.Equal.{Equal as Seen};
 
 use crate::{Equal, EqualList, Query};
-use claim_tree::{
-    Field, FileFault, PathList, Tree, TreeMap, copy, pointer_list_member, pointer_of, read_members,
-};
+use claim_tree::{PathList, Tree, TreeMap, copy, pointer_of};
+use file_members::{Field, FileFault, pointer_list_member, read_members};
 use compact_form::FILE_MAX;
 use hmac_sign::keys_member;
 use sd_outside::NoMemory;

@@ -15,7 +15,7 @@ ghost use Rattle.wallet_core.specs.declared.error.WalletError.TheVariants.{NoAns
 use crate::words::wallet_words;
 use crate::{CredentialList, Picked, Query, QueryFile, WalletError, answer, read_query};
 use claim_tree::{Path, PathList};
-use cli_parts::{FETCH_MAX, Stop, as_line, fetch_file, finish, readable, tell};
+use cli_parts::{FETCH_MAX, Stop, as_line, fetch_file, end_run, readable, tell};
 use compact_form::print;
 use digest_index::Steps;
 use refusals::{Place, Refusal, placed_line};
@@ -151,5 +151,5 @@ pub fn run_wallet<C: Cabinet, O: Sink, E: Sink>(
     let Some((query, tokens)) = wallet_words(words) else {
         return tell(err, "usage\n", Status::Usage);
     };
-    finish(alloc, fetch_answer(alloc, cab, query, tokens), out, err)
+    end_run(alloc, fetch_answer(alloc, cab, query, tokens), out, err)
 }

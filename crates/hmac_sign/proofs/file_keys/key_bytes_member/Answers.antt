@@ -1,6 +1,6 @@
 use Rattle.claim_tree.specs.View.{tree_of}
-use Rattle.claim_tree.specs.FileForms.{required}
-use Rattle.claim_tree.proofs.FileMembers.{wrong_member}
+use Rattle.file_members.specs.FileForms.{required}
+use Rattle.file_members.proofs.FileMembers.{wrong_member}
 use Rattle.hmac_sign.specs.KeyText.{IsKeyBytes}
 use Rattle.hmac_sign.proofs.file_keys.key_bytes_member.Goals as goal
 

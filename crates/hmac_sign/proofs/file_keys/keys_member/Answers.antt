@@ -1,7 +1,7 @@
 use Rattle.std.proofs.Common.{Err, ap}
 use Rattle.claim_tree.specs.View.{tree_of}
-use Rattle.claim_tree.specs.FileForms.{required}
-use Rattle.claim_tree.proofs.FileMembers.{wrong_member}
+use Rattle.file_members.specs.FileForms.{required}
+use Rattle.file_members.proofs.FileMembers.{wrong_member}
 use Rattle.hmac_sign.specs.Keys.{IsKeySet}
 use Rattle.hmac_sign.proofs.KeySetVerdicts.{not_read}
 use Rattle.hmac_sign.proofs.file_keys.keys_member.Goals as goal

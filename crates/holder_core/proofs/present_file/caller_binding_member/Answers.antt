@@ -1,7 +1,7 @@
 use Rattle.claim_tree.specs.View.{tree_of}
-use Rattle.claim_tree.specs.FileForms.{optional}
-use Rattle.claim_tree.specs.declared.file_fault.Field.TheVariants.{Binding}
-use Rattle.claim_tree.proofs.FileMembers.{wrong_member}
+use Rattle.file_members.specs.FileForms.{optional}
+use Rattle.file_members.specs.declared.field.Field.TheVariants.{Binding}
+use Rattle.file_members.proofs.FileMembers.{wrong_member}
 use Rattle.holder_core.specs.UnsignedPresent.{IsCallerBinding}
 use Rattle.holder_core.proofs.present_file.caller_binding_member.Goals as goal
 

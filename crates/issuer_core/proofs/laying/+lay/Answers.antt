@@ -28,8 +28,8 @@ lay_list-loop-mark-init t c =
     subst (λ laid. LaysElements a.decoys a.hiding a.layer.now.texts a.list laid a.layer.now.texts a.layer.now.digests (marked_elements_of (into_iter_items c.into_iter-mark-iterator.result))) (sym c.in_ok-laid.ensures)
     (subst (λ left. LaysElements a.decoys a.hiding a.layer.now.texts a.list _ a.layer.now.texts a.layer.now.digests left) (sym all) start)
 
-pub lay_list-lay_part-requires : goal.lay_list-lay_part-requires
-lay_list-lay_part-requires t c =
+pub lay_list-lay_node-requires : goal.lay_list-lay_node-requires
+lay_list-lay_node-requires t c =
     let a = c.args in
     let l = c.loop-mark in
     let e : Element = (c.in-Some.mark, c.in-Some.tree) in
@@ -43,14 +43,14 @@ lay_list-loop-mark-preserved t c =
     let l = c.loop-mark in
     let e : Element = (c.in-Some.mark, c.in-Some.tree) in
     let left = marked_elements_of (into_iter_items c.next.new.self) in
-    let texts = c.lay_part.new.layer.texts in
+    let texts = c.lay_node.new.layer.texts in
     let so : LaysElements a.decoys a.hiding a.layer.now.texts a.list l.laid l.layer.texts l.layer.digests (marked_element e.0 (marked_of e.1) (marked_elements_of (into_iter_items c.next.new.self))) =
     subst (λ es. LaysElements a.decoys a.hiding a.layer.now.texts a.list l.laid l.layer.texts l.layer.digests (marked_elements_of es)) c.in-Some.ensures.steps.0 l.invariant in
     let told = c.in_ok-tree.ensures in
     let step : (at : Path) → placed_at c.below_element-below.result at ≡ placed_at a.decoys (decimal (elements_len l.laid) ∷ at) =
     λ at. c.below_element-below.ensures.below at ∙ ap (λ i. placed_at a.decoys (decimal i ∷ at)) c.len.ensures in
     let next = element_more a.decoys a.hiding a.layer.now.texts a.list l.laid l.layer.texts l.layer.digests c.in-Some.mark (marked_of c.in-Some.tree) left so c.below_element-below.result step
-    (tree_of c.match-branch-3.tree) texts c.lay_part.new.layer.digests
+    (tree_of c.match-branch-3.tree) texts c.lay_node.new.layer.digests
     (λ dec tells more.
     elim c.match-branch-3.branch [
       | lay_list-in-Shown w ↦
@@ -61,7 +61,7 @@ lay_list-loop-mark-preserved t c =
           (hidden_element dec (digest_at c.args.hiding.hash (texts ++ more)) c.in-Some.mark (marked_of c.in-Some.tree) w.in-Hidden.digest _ (subst (λ p. IsLaidNode dec (digest_at c.args.hiding.hash (texts ++ more)) c.in-Some.mark (marked_of c.in-Some.tree) p) w.in-Hidden.is (told.part dec tells more)) w.in_ok-tree-in-Hidden.ensures)
     ])
     told.texts told.count told.digests in
-    subst (λ laid. LaysElements a.decoys a.hiding a.layer.now.texts a.list laid texts c.lay_part.new.layer.digests left) (sym c.in_ok-push.ensures.ok) next
+    subst (λ laid. LaysElements a.decoys a.hiding a.layer.now.texts a.list laid texts c.lay_node.new.layer.digests left) (sym c.in_ok-push.ensures.ok) next
 
 pub list_done : (t : ℕ) (c : goal.lay_list-In_ok-push_decoys t) → LaysElements c.args.decoys c.args.hiding c.args.layer.now.texts c.args.list c.loop-mark.laid c.loop-mark.layer.texts c.loop-mark.layer.digests no_marked_elements
 list_done t c =
@@ -98,8 +98,8 @@ lay_map-loop-name-init t c =
     let start = members_start a.decoys a.hiding a.layer.now.texts a.layer.now.digests a.members c.requires.closes c.requires.digests c.into_members-name-items.ensures.ordered in
     rw (c.new-laid.ensures, c.new-digests.ensures.items) (subst (λ left. LaysMembers a.decoys a.hiding a.layer.now.texts a.members _ [] a.layer.now.texts a.layer.now.digests left) (sym all) start)
 
-pub lay_map-lay_part-requires : goal.lay_map-lay_part-requires
-lay_map-lay_part-requires t c =
+pub lay_map-lay_node-requires : goal.lay_map-lay_node-requires
+lay_map-lay_node-requires t c =
     let a = c.args in
     let l = c.loop-name in
     let e : Entry = (c.in-Some.name, c.in-Some.mark, c.in-Some.tree) in
@@ -118,10 +118,10 @@ lay_map-loop-name-preserved t c =
     let told = c.in_ok-part.ensures in
     let step : (at : Path) → placed_at c.below-below.result at ≡ placed_at a.decoys (c.in-Some.name ∷ at) =
     λ at. c.below-below.ensures.below at ∙ ap (λ s. placed_at a.decoys (s ∷ at)) c.as_str.ensures in
-    let made = subst (λ s. IsMade c.below-below.result a.hiding (Some s) c.in-Some.mark (marked_of c.in-Some.tree) l.layer.texts c.lay_part.new.layer.texts) c.as_str-in-loop-name.ensures told.texts in
+    let made = subst (λ s. IsMade c.below-below.result a.hiding (Some s) c.in-Some.mark (marked_of c.in-Some.tree) l.layer.texts c.lay_node.new.layer.texts) c.as_str-in-loop-name.ensures told.texts in
     rw (c.in_ok-put_part.ensures.members, c.in_ok-put_part.ensures.digests)
     (member_more a.decoys a.hiding a.layer.now.texts a.members l.laid l.digests.items l.layer.texts l.layer.digests c.in-Some.name c.in-Some.mark (marked_of c.in-Some.tree) left so c.below-below.result step
-    c.in_ok-part.part c.lay_part.new.layer.texts c.lay_part.new.layer.digests told.part made told.count told.digests)
+    c.in_ok-part.part c.lay_node.new.layer.texts c.lay_node.new.layer.digests told.part made told.count told.digests)
 
 pub map_done : (t : ℕ) (c : goal.lay_map-In_ok-put_sd t) → LaysMembers c.args.decoys c.args.hiding c.args.layer.now.texts c.args.members c.loop-name.laid c.loop-name.digests.items c.loop-name.layer.texts c.loop-name.layer.digests no_marked_members
 map_done t c =
@@ -153,17 +153,17 @@ lay_map-returns-clause-digests t c = c.loop-name.invariant.digested
 
 -- ---- parts
 
-pub lay_part-disclose-requires-clause-depth : goal.lay_part-disclose-requires-clause-depth
-lay_part-disclose-requires-clause-depth t c =
+pub lay_node-disclose-requires-clause-depth : goal.lay_node-disclose-requires-clause-depth
+lay_node-disclose-requires-clause-depth t c =
     let m = marked_of c.args.tree in
     let same = ap depth (c.in_ok-inside.ensures.laid (placed_at c.args.decoys) (λ at. refl) []) in
     let low = lay_depth (placed_at c.args.decoys) (digest_at c.args.hiding.hash (c.lay.new.layer.texts ++ [])) m in
     let deep = c.requires.depth in
     omega (arith, same, low, deep)
 
-pub lay_part-returns-in_ok-disclose-in-Some-clause-part :
-    goal.lay_part-returns-in_ok-disclose-in-Some-clause-part
-lay_part-returns-in_ok-disclose-in-Some-clause-part t c dec tells more =
+pub lay_node-returns-in_ok-disclose-in-Some-clause-part :
+    goal.lay_node-returns-in_ok-disclose-in-Some-clause-part
+lay_node-returns-in_ok-disclose-in-Some-clause-part t c dec tells more =
     let a = c.args in
     let inside = c.in_ok-inside.ensures in
     let own = c.in_ok-disclose-in-Some.ensures in
@@ -171,9 +171,9 @@ lay_part-returns-in_ok-disclose-in-Some-clause-part t c dec tells more =
     hidden_part a.decoys a.hiding (option_map (λ n. n.now) a.name) a.mark (marked_of a.tree) c.in-Some.field-0 (tree_of c.in_ok-inside.inside) a.layer.now.texts c.lay.new.layer.texts c.disclose.new.self.texts
     c.in-Some.is inside.laid inside.texts own.text c.in_ok-disclose-in-Some.field-0 own.digest numbered more dec
 
-pub lay_part-returns-in_ok-disclose-in-Some-clause-texts :
-    goal.lay_part-returns-in_ok-disclose-in-Some-clause-texts
-lay_part-returns-in_ok-disclose-in-Some-clause-texts t c =
+pub lay_node-returns-in_ok-disclose-in-Some-clause-texts :
+    goal.lay_node-returns-in_ok-disclose-in-Some-clause-texts
+lay_node-returns-in_ok-disclose-in-Some-clause-texts t c =
     let a = c.args in
     let inside = c.in_ok-inside.ensures in
     let own = c.in_ok-disclose-in-Some.ensures in

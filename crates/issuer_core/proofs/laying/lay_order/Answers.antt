@@ -10,7 +10,7 @@ returns-then-hides_nothing-clause-laid c =
     let shown : c.args.order.hide ≡ [] = search rules in
     let bare : c.args.order.decoys ≡ [] = search rules in
     let all = nothing_laid (maker_of c.args.seed.now) (order_of c.args.order) shown bare in
-    IfOk-weaker c.lay_shown.result _ _ (λ l h. rw (h.0, h.1, h.2) all) c.lay_shown.ensures
+    IfOk-weaker c.lay_unhidden.result _ _ (λ l h. rw (h.0, h.1, h.2) all) c.lay_unhidden.ensures
 
 pub returns-then-hides_nothing-clause-few : goal.returns-then-hides_nothing-clause-few
-returns-then-hides_nothing-clause-few c = IfOk-weaker c.lay_shown.result _ _ (λ l h. let none = ap length h.1 in omega (arith, none)) c.lay_shown.ensures
+returns-then-hides_nothing-clause-few c = IfOk-weaker c.lay_unhidden.result _ _ (λ l h. let none = ap length h.1 in omega (arith, none)) c.lay_unhidden.ensures

@@ -1,5 +1,5 @@
 use Rattle.std.proofs.Common.{◌≡◌, ◌<◌, length, sym, ap, ap₂, subst, ◌∙◌, OnOk, rules}
-use Rattle.claim_tree.specs.FileForms.{text_elements}
+use Rattle.claim_tree.specs.TreeValues.{text_elements}
 use Rattle.claim_tree.specs.Tree.{Text, Elements, array, inserted}
 use Rattle.digest_sites.specs.Reserved.{sd_name}
 use Rattle.issuer_core.proofs.SortedDigests.{with_some}

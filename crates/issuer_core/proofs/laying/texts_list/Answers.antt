@@ -1,7 +1,7 @@
 use Rattle.std.proofs.Common.{◌≡◌, [], sym, ap, ◌∙◌}
 use Rattle.std.specs.Vec.Iter.{into_iter_items}
 use Rattle.std.proofs.lemmas.List.{nil_from_length}
-use Rattle.claim_tree.specs.FileForms.{text_elements}
+use Rattle.claim_tree.specs.TreeValues.{text_elements}
 use Rattle.issuer_core.specs.Laying.{elements_joined}
 use Rattle.issuer_core.proofs.LayingElements.{text_more, joined_none}
 use Rattle.issuer_core.proofs.laying.texts_list.Goals as goal

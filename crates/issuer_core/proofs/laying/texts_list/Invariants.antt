@@ -1,6 +1,6 @@
 use Rattle.std.proofs.Common.{◌≡◌}
 use Rattle.std.specs.Vec.Iter.{into_iter_items}
-use Rattle.claim_tree.specs.FileForms.{text_elements}
+use Rattle.claim_tree.specs.TreeValues.{text_elements}
 use Rattle.issuer_core.specs.Laying.{elements_joined}
 use Rattle.issuer_core.proofs.laying.texts_list.Given as goal
 

@@ -1,7 +1,7 @@
-use Rattle.claim_tree.specs.FileForms.{optional}
+use Rattle.file_members.specs.FileForms.{optional}
 use Rattle.claim_tree.specs.View.{tree_of}
-use Rattle.claim_tree.specs.declared.file_fault.Field.{Field}
-use Rattle.claim_tree.proofs.FileMembers.{wrong_member}
+use Rattle.file_members.specs.declared.field.Field.{Field}
+use Rattle.file_members.proofs.FileMembers.{wrong_member}
 use Rattle.issuer_core.specs.OrderFile.{IsAlgText}
 use Rattle.issuer_core.proofs.order_file.alg_member.Goals as goal
 

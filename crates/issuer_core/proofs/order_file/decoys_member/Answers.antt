@@ -1,9 +1,9 @@
 use Rattle.std.proofs.Common.{List, subst}
 use Rattle.claim_tree.specs.View.{tree_of}
-use Rattle.claim_tree.specs.FileForms.{optional}
-use Rattle.claim_tree.specs.declared.file_fault.Field.TheVariants.{Decoys}
-use Rattle.claim_tree.proofs.FileMembers.{wrong_member}
-use Rattle.claim_tree.specs.FileLists.{IsListOf, EachSays}
+use Rattle.file_members.specs.FileForms.{optional}
+use Rattle.file_members.specs.declared.field.Field.TheVariants.{Decoys}
+use Rattle.file_members.proofs.FileMembers.{wrong_member}
+use Rattle.claim_tree.specs.TreeValues.{IsListOf, EachSays}
 use Rattle.issuer_core.specs.OrderFile.{IsDecoy}
 use Rattle.issuer_core.specs.declared.order.Decoy.{Decoy}
 use Rattle.claim_tree.proofs.ListForms.{other_than_list, list_without}

@@ -1,6 +1,6 @@
 use Rattle.std.proofs.Common.{take}
 use Rattle.claim_tree.specs.ListViews.{elements_of}
-use Rattle.claim_tree.specs.FileLists.{EachSays}
+use Rattle.claim_tree.specs.TreeValues.{EachSays}
 use Rattle.issuer_core.specs.OrderFile.{IsDecoy}
 use Rattle.issuer_core.proofs.order_file.decoys_of.Given as goal
 

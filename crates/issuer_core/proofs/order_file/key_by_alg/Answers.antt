@@ -1,6 +1,6 @@
 use Rattle.std.proofs.Common.{length}
 use Rattle.std.proofs.lemmas.Result.{err_from_is_err_and}
-use Rattle.claim_tree.specs.declared.file_fault.Field.{Field}
+use Rattle.file_members.specs.declared.field.Field.{Field}
 use Rattle.issuer_core.specs.OrderFile.{IsAlgText, IsAlgFor}
 use Rattle.issuer_core.proofs.OrderFiles.{refused_as, unsized, too_short}
 use Rattle.issuer_core.proofs.order_file.key_by_alg.Goals as goal

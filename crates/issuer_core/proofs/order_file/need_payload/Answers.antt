@@ -1,7 +1,7 @@
 use Rattle.std.proofs.Common.{refl, sym, ap, ◌∙◌}
 use Rattle.claim_tree.specs.Tree.{member_named}
 use Rattle.claim_tree.specs.View.{tree_of}
-use Rattle.claim_tree.specs.FileForms.{present}
+use Rattle.file_members.specs.FileForms.{present}
 use Rattle.issuer_core.proofs.order_file.need_payload.Goals as goal
 
 pub returns-in-Some-clause-there : goal.returns-in-Some-clause-there

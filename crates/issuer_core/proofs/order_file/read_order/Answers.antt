@@ -1,9 +1,10 @@
 use Rattle.std.proofs.Common.{ℕ, List, sym, subst, arith}
 use Rattle.std.proofs.lemmas.Result.{err_from_is_err_and}
 use Rattle.claim_tree.specs.View.{tree_of}
-use Rattle.claim_tree.specs.FileForms.{Says, found}
-use Rattle.claim_tree.specs.FileWords.{field_word}
-use Rattle.claim_tree.specs.declared.file_fault.Field.TheVariants.{Payload, Decoys, Key}
+use Rattle.claim_tree.specs.TreeValues.{Says}
+use Rattle.file_members.specs.FileForms.{found}
+use Rattle.file_members.specs.FileWords.{field_word}
+use Rattle.file_members.specs.declared.field.Field.TheVariants.{Payload, Decoys, Key}
 use Rattle.hmac_sign.specs.KeyText.{IsKeyBytes}
 use Rattle.issuer_core.proofs.OrderFiles.{value_depth, counts_within, enough_bytes}
 use Rattle.issuer_core.proofs.OrderFaults.{at_hide, at_decoys, at_key, at_kid, at_typ, at_alg, at_hash}

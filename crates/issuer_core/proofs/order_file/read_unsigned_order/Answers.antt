@@ -1,9 +1,9 @@
 use Rattle.std.proofs.Common.{arith}
 use Rattle.std.proofs.lemmas.Result.{err_from_is_err_and}
 use Rattle.claim_tree.specs.View.{tree_of}
-use Rattle.claim_tree.specs.FileForms.{found}
-use Rattle.claim_tree.specs.FileWords.{field_word}
-use Rattle.claim_tree.specs.declared.file_fault.Field.TheVariants.{Payload, Decoys}
+use Rattle.file_members.specs.FileForms.{found}
+use Rattle.file_members.specs.FileWords.{field_word}
+use Rattle.file_members.specs.declared.field.Field.TheVariants.{Payload, Decoys}
 use Rattle.issuer_core.proofs.OrderFiles.{value_depth, counts_within}
 use Rattle.issuer_core.proofs.UnsignedOrders.{at_hide, at_decoys, at_kid, at_typ, at_hash}
 use Rattle.issuer_core.proofs.order_file.read_unsigned_order.Goals as goal

@@ -1,5 +1,5 @@
 use Rattle.std.proofs.Common.{◌≡◌, Err, sym, ap, subst, ◌∙◌}
-use Rattle.claim_tree.specs.FileForms.{Says}
+use Rattle.claim_tree.specs.TreeValues.{Says}
 use Rattle.refusals.specs.declared.fault.JsonPlace.TheVariants.{Stray}
 use Rattle.refusals.specs.declared.fault.Part.TheVariants.{Payload}
 use Rattle.json_form.specs.Json.{found_part, IsWordTree}

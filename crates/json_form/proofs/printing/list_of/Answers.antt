@@ -1,5 +1,5 @@
 use Rattle.std.proofs.Common.{[], ◌∷◌, ◌++◌, append_assoc, sym, ap, ◌∙◌, rules}
-use Rattle.claim_tree.proofs.FileMembers.{text_elements-push}
+use Rattle.claim_tree.proofs.TreeValues.{text_elements-push}
 use Rattle.json_form.proofs.printing.list_of.Goals as goal
 
 pub loop-text-init : goal.loop-text-init

@@ -1,6 +1,6 @@
 use Rattle.std.proofs.Common.{◌≡◌, ◌++◌, List}
 use Rattle.claim_tree.specs.Tree.{Text}
-use Rattle.claim_tree.specs.FileForms.{text_elements}
+use Rattle.claim_tree.specs.TreeValues.{text_elements}
 use Rattle.json_form.proofs.printing.list_of.Given as goal
 
 abbrev pub invariant-loop-text : goal.invariant-loop-text

@@ -1,6 +1,6 @@
 use Rattle.std.proofs.Common.{Err, ap, subst, ◌∙◌}
 use Rattle.claim_tree.specs.Tree.{Members}
-use Rattle.claim_tree.specs.FileForms.{MaySay}
+use Rattle.claim_tree.specs.TreeValues.{MaySay}
 use Rattle.claim_tree.specs.Removed.{removed}
 use Rattle.refusals.specs.PartWords.{part_word}
 use Rattle.refusals.specs.declared.fault.Part.TheVariants.{Protected, Signature, Header, KbJwt}

@@ -1,5 +1,5 @@
 use Rattle.std.proofs.Common.{◌≡◌, IfNone, sym, subst}
-use Rattle.claim_tree.specs.FileForms.{HasValue}
+use Rattle.claim_tree.specs.TreeValues.{HasValue}
 use Rattle.claim_tree.specs.View.{tree_of}
 use Rattle.refusals.specs.declared.fault.JsonPlace.TheVariants.{Wrong}
 use Rattle.refusals.specs.declared.fault.Part.TheVariants.{KbJwt}

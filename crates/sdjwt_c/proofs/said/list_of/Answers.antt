@@ -4,7 +4,7 @@ use Rattle.claim_tree.specs.JsonRefusals.{IsReadRefused}
 use Rattle.claim_tree.specs.JsonText.{Reads}
 use Rattle.claim_tree.specs.View.{tree_of}
 use Rattle.claim_tree.specs.declared.tree.Tree as owned
-use Rattle.claim_tree.proofs.FileVerdicts.{is_whole}
+use Rattle.claim_tree.proofs.OneTree.{is_whole}
 use Rattle.sdjwt_c.proofs.ListTexts.{none_found}
 use Rattle.sdjwt_c.proofs.said.list_of.Goals as goal
 

@@ -1,7 +1,7 @@
 use Rattle.claim_tree.specs.View.{tree_of}
-use Rattle.claim_tree.specs.FileForms.{optional}
-use Rattle.claim_tree.specs.declared.file_fault.Field.TheVariants.{Binding}
-use Rattle.claim_tree.proofs.FileMembers.{wrong_member}
+use Rattle.file_members.specs.FileForms.{optional}
+use Rattle.file_members.specs.declared.field.Field.TheVariants.{Binding}
+use Rattle.file_members.proofs.FileMembers.{wrong_member}
 use Rattle.verifier_core.specs.PolicyFile.{IsBindingPolicy}
 use Rattle.verifier_core.proofs.binding_file.binding_member.Goals as goal
 

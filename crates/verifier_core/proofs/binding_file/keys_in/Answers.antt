@@ -1,7 +1,7 @@
 use Rattle.std.proofs.Common.{◌≡◌, List, Option, Some, Err, ap, subst, codes}
 use Rattle.claim_tree.specs.Tree.{Tree, member_named}
 use Rattle.claim_tree.specs.View.{tree_of}
-use Rattle.claim_tree.specs.FileForms.{Says}
+use Rattle.claim_tree.specs.TreeValues.{Says}
 use Rattle.hmac_sign.specs.Keys.{IsKeySet}
 use Rattle.hmac_sign.specs.declared.key_set.NamedKey.{NamedKey}
 use Rattle.hmac_sign.proofs.KeySetVerdicts.{not_read}

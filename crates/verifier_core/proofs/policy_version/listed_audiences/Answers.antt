@@ -1,7 +1,7 @@
 use Rattle.std.proofs.Common.{◌≡◌, Option, Some, ap, subst, sym, ◌∙◌, codes}
 use Rattle.claim_tree.specs.Tree.{Tree, array, member_named}
 use Rattle.claim_tree.specs.View.{tree_of}
-use Rattle.claim_tree.specs.FileForms.{Says}
+use Rattle.claim_tree.specs.TreeValues.{Says}
 use Rattle.verifier_core.specs.PolicyVersion.{IsAudiences, AreAudiences}
 use Rattle.verifier_core.specs.declared.policy_version.PolicyVersion.{PolicyVersion}
 use Rattle.verifier_core.proofs.PolicyVersions.{other_texts}

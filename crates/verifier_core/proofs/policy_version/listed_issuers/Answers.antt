@@ -1,7 +1,7 @@
 use Rattle.std.proofs.Common.{◌≡◌, ◌≤◌, ap, subst, ◌∙◌, length, arith}
 use Rattle.claim_tree.specs.Tree.{array}
 use Rattle.claim_tree.specs.View.{tree_of}
-use Rattle.claim_tree.specs.FileForms.{IsTexts}
+use Rattle.claim_tree.specs.TreeValues.{IsTexts}
 use Rattle.verifier_core.proofs.PolicyVersions.{other_texts}
 use Rattle.verifier_core.proofs.policy_version.listed_issuers.Goals as goal
 

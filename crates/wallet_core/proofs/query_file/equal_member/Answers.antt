@@ -1,9 +1,9 @@
 use Rattle.std.proofs.Common.{List, subst}
 use Rattle.claim_tree.specs.View.{tree_of}
-use Rattle.claim_tree.specs.FileForms.{optional}
-use Rattle.claim_tree.specs.declared.file_fault.Field.TheVariants as field
-use Rattle.claim_tree.proofs.FileMembers.{wrong_member}
-use Rattle.claim_tree.specs.FileLists.{IsListOf, EachSays}
+use Rattle.file_members.specs.FileForms.{optional}
+use Rattle.file_members.specs.declared.field.Field.TheVariants as field
+use Rattle.file_members.proofs.FileMembers.{wrong_member}
+use Rattle.claim_tree.specs.TreeValues.{IsListOf, EachSays}
 use Rattle.wallet_core.specs.QueryFile.{IsEqual}
 use Rattle.wallet_core.specs.declared.query.Equal.{Equal}
 use Rattle.claim_tree.proofs.ListForms.{other_than_list, list_without}

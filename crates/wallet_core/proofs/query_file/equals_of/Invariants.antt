@@ -1,6 +1,6 @@
 use Rattle.std.proofs.Common.{take}
 use Rattle.claim_tree.specs.ListViews.{elements_of}
-use Rattle.claim_tree.specs.FileLists.{EachSays}
+use Rattle.claim_tree.specs.TreeValues.{EachSays}
 use Rattle.wallet_core.specs.QueryFile.{IsEqual}
 use Rattle.wallet_core.proofs.query_file.equals_of.Given as goal
 

@@ -4,6 +4,6 @@ use Rattle.holder_core.proofs.signing.UnsignedPresentation.signed.Goals as goal
 
 pub returns-clause-words : goal.returns-clause-words
 returns-clause-words c words some =
-    IfOk-weaker c.bound_parts.result _ _
+    IfOk-weaker c.parts_with_binding.result _ _
     (λ answer h. sent_words c.args.self c.args.signature.now answer words some (record { signed = h.0; disclosures = h.1; token = c.in-Ok.token; binding = h.2; with_it = c.in-Ok.ensures }))
-    c.bound_parts.ensures.bound
+    c.parts_with_binding.ensures.bound

@@ -1,0 +1,2 @@
+pub mod FileMembers
+pub mod FileVerdicts

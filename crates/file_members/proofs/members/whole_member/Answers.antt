@@ -1,0 +1,8 @@
+use Rattle.file_members.specs.FileForms.{optional}
+use Rattle.claim_tree.specs.TreeValues.{IsWholeUpTo}
+use Rattle.claim_tree.specs.View.{tree_of}
+use Rattle.file_members.proofs.FileMembers.{wrong_member}
+use Rattle.file_members.proofs.members.whole_member.Goals as goal
+
+pub returns-in-None-clause-refused : goal.returns-in-None-clause-refused
+returns-in-None-clause-refused c = wrong_member (optional c.args.field (IsWholeUpTo c.args.most)) c.args.members.now c.word.result.now (tree_of c.in-Some.tree.now) c.word.ensures c.in-Some.ensures c.in-None.ensures.none
