@@ -52,19 +52,19 @@ list() {
 
 minutes() { echo $((($(date +%s) - start + 30) / 60)); }
 
-# Proves one crate over those below it, with all processes: side by side they would wait for one another, since most of
-# them stand on the one before. Of a library this makes what the crates above read.
+# Proves a library over those below it, by all processes, and makes what the crates above it read. Libraries that are
+# proved side by side would often wait for one another, since most of them stand on the one before.
 prove() (
     cd "$top/crates/$1" || exit
-    if [ "$1" = "$crate" ]; then rt check --jobs "$jobs"; else rt lib --jobs "$jobs"; fi
+    rt lib --jobs "$jobs"
 ) >>"$log" 2>&1
 
-# Builds over what was proved. A program is run once, with no words, and then says `usage`.
+# Proves the crate itself, and builds it. A program is run once, with no words, and then says `usage`.
 build() {
     if [ -f src/main.rt ]; then
-        rt run >>"$log" 2>&1 || [ "$(tail -n 1 "$log")" = usage ]
+        rt run --jobs "$jobs" >>"$log" 2>&1 || [ "$(tail -n 1 "$log")" = usage ]
     else
-        rt lib >>"$log" 2>&1
+        rt lib --jobs "$jobs" >>"$log" 2>&1
     fi
 }
 
@@ -81,11 +81,9 @@ echo "minutes on four cores; what was proved on this machine before is not prove
 : >"$log"
 done=0
 for name in $names; do
-    prove "$name" || failed "$name is not proved"
+    if [ "$name" = "$crate" ]; then build; else prove "$name"; fi || failed "$name is not proved, or not built"
     done=$((done + 1))
     echo "$done of $all: $name ($(minutes) min)"
 done
-echo 'Building.'
-build || failed "$crate is not built"
 [ -f "$makes" ] || failed "$crate is not built"
 echo "Proved and built in $(minutes) min: crates/$crate/$makes"

@@ -1,13 +1,18 @@
 #!/usr/bin/env python3
-"""Writes the vectors of vectors/ as inputs of fuzz.c: python3 c/fuzz/corpus.py FOLDER
+"""The inputs with which fuzz.c begins.
 
-Each run of a vector becomes a file of FOLDER/CALL: the files that it reads, with a zero byte between two. What an
-earlier run keeps is found by tests/reference. Runs of other commands, of files that are not there, of files with a zero
-byte, and of more than 16 KiB are left out.
+    python3 c/fuzz/corpus.py FOLDER           writes them to FOLDER/CALL, a file each
+    python3 c/fuzz/corpus.py --keep FOLDER    puts those of FOLDER/CALL into found.tar.xz, for each call that is there
+
+Each run of a vector of vectors/ is an input: the files that it reads, with a zero byte between two. What an earlier run
+keeps is found by tests/reference. Runs of other commands, of files that are not there, of files with a zero byte, and
+of more than 16 KiB are left out. found.tar.xz has what a fuzzer found beside these: texts that reach other code.
 """
 import hashlib
+import io
 import json
 import sys
+import tarfile
 from pathlib import Path
 
 TOP = Path(__file__).resolve().parent.parent.parent
@@ -17,10 +22,16 @@ sys.path[:0] = [str(TOP / "tests" / "reference"), str(TOP / "vectors")]
 import main as reading  # noqa: E402
 import write  # noqa: E402
 
+FOUND = Path(__file__).resolve().parent / "found.tar.xz"
 CALLS = ("verify", "present", "issue", "show", "convert", "audit", "wallet")
+ALL_CALLS = (*CALLS, "ask", "sign", "step", "sent", "policy")
 FORMS = ("compact", "flat", "general")
 SOME_MOMENT = 1_800_000_000
 LONGEST = 16_384
+
+
+def name_of(data):
+    return hashlib.sha256(data).hexdigest()[:16]
 
 
 def without_key(order):
@@ -69,18 +80,50 @@ def inputs(vector):
             files[run["kept_as"]] = answer.output
 
 
-def main():
-    folder = Path(sys.argv[1])
-    for call in (*CALLS, "ask", "sign", "step", "sent", "policy"):
-        (folder / call).mkdir(parents=True, exist_ok=True)
+def of_vectors():
+    """The inputs of all vectors, as pairs of a call and its bytes."""
     found = [each for path in sorted((TOP / "vectors").glob("*.json")) for each in json.loads(path.read_text("utf-8"))]
     for vector in found + write.of_tools():
         for call, parts in inputs(vector):
             data = b"\0".join(parts)
             if data.count(b"\0") == len(parts) - 1 and len(data) <= LONGEST:
                 for name in (call, "policy") if call == "verify" else (call,):
-                    (folder / name / hashlib.sha256(data).hexdigest()[:16]).write_bytes(data)
+                    yield name, data
+
+
+def of_fuzzers():
+    """The inputs of found.tar.xz, as such pairs."""
+    if FOUND.exists():
+        with tarfile.open(FOUND) as archive:
+            for entry in archive:
+                yield entry.name.split("/")[0], archive.extractfile(entry).read()
+
+
+def write_inputs(folder):
+    for call in ALL_CALLS:
+        (folder / call).mkdir(parents=True, exist_ok=True)
+    for call, data in (*of_vectors(), *of_fuzzers()):
+        (folder / call / name_of(data)).write_bytes(data)
     print(", ".join(f"{call.name}: {len(list(call.iterdir()))}" for call in sorted(folder.iterdir())))
+
+
+def keep(folder):
+    """The new archive: the inputs of the folder that are no vectors', and the old ones of calls that it has not."""
+    known = set(of_vectors())
+    new = {(call.name, path.read_bytes()) for call in folder.iterdir() for path in call.iterdir()} - known
+    calls = {call.name for call in folder.iterdir()}
+    kept = sorted(new | {(call, data) for call, data in of_fuzzers() if call not in calls})
+    with tarfile.open(FOUND, "w:xz", preset=9) as archive:
+        for call, data in kept:
+            entry = tarfile.TarInfo(f"{call}/{name_of(data)}")
+            entry.size = len(data)
+            archive.addfile(entry, io.BytesIO(data))
+    print(f"{FOUND.name}: {len(kept)} inputs, {FOUND.stat().st_size} bytes")
+
+
+def main():
+    *words, folder = sys.argv[1:]
+    (keep if words == ["--keep"] else write_inputs)(Path(folder))
 
 
 if __name__ == "__main__":

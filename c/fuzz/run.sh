@@ -1,25 +1,31 @@
 #!/bin/sh
 # Fuzzes the calls of the C library by libFuzzer, one after the other, under AddressSanitizer.
 #
-#   sh c/fuzz/run.sh [--install] SECONDS [CALL ..]      so long each call: verify, present, issue, ask, sign, step, sent, show,
-#                                                       convert, audit, wallet and policy, or those that are named
+#   sh c/fuzz/run.sh [--install] [--keep] SECONDS [CALL ..]
 #
-# It builds the library without proofs, with the counters by which libFuzzer sees which code an input reaches; so it
-# finds faults of the code and of what it stands on, and proves nothing. The inputs begin with the vectors of vectors/,
-# and what is found is kept in c/out/fuzz/CALL, where the next run goes on. An input that fails is left beside this
-# corpus, and the status is not 0. A call may take twenty seconds and 2 GB of memory. It needs a Rattle kit, python3, and
-# clang with its libFuzzer.
+# So many seconds each of verify, present, issue, ask, sign, step, sent, show, convert, audit, wallet and policy, or of
+# the calls that are named. It builds the library without proofs, with the counters by which libFuzzer sees which code an
+# input reaches; so it finds faults of the code and of what it stands on, and proves nothing. It begins with the inputs
+# of corpus.py, and what is found is kept in c/out/fuzz/CALL, where the next run goes on; with --keep those inputs that
+# reach other code than the vectors, the smallest that do, go into c/fuzz/found.tar.xz. An input that fails is left
+# beside this corpus, and the status is not 0. A call may take twenty seconds and 2 GB of memory. It needs a Rattle kit,
+# python3, and clang with its libFuzzer.
 set -eu
 refuse() {
     echo "run.sh: $1" >&2
     exit 1
 }
 
-if [ "${1-}" = --install ]; then
-    apt-get install -y clang binutils python3
+keep=no
+while :; do
+    case ${1-} in
+        --install) apt-get install -y clang binutils python3 ;;
+        --keep) keep=yes ;;
+        *) break ;;
+    esac
     shift
-fi
-[ $# -ge 1 ] || refuse 'usage: sh c/fuzz/run.sh [--install] SECONDS [CALL ..]'
+done
+[ $# -ge 1 ] || refuse 'usage: sh c/fuzz/run.sh [--install] [--keep] SECONDS [CALL ..]'
 seconds=$1
 shift
 [ $# -gt 0 ] || set -- verify present issue ask sign step sent show convert audit wallet policy
@@ -57,5 +63,10 @@ for call; do
         -artifact_prefix="$kept/$call-" -print_final_stats=1 -verbosity=1 "$kept/$call" "$made/corpus/$call" \
         >"$made/said" 2>&1 || { tail -n 40 "$made/said" >&2 && refuse "$call fails; the input is in c/out/fuzz"; }
     grep -E 'number_of_executed_units|peak_rss_mb|slowest_unit_time_sec' "$made/said"
+    [ "$keep" = yes ] || continue
+    mkdir -p "$made/small/$call"
+    SDJWT_FUZZ=$call "$made/fuzz" -merge=1 -max_len=16384 "$made/small/$call" "$made/corpus/$call" "$kept/$call" \
+        >"$made/said" 2>&1 || { tail -n 40 "$made/said" >&2 && refuse "the inputs of $call are not made small"; }
 done
+[ "$keep" = no ] || python3 "$here/corpus.py" --keep "$made/small"
 echo "run.sh: nothing failed"

@@ -12,7 +12,7 @@ ghost use Rattle.audit_core.specs.AuditRun.{AuditAnswers, AuditEnds, AuditsFiles
 
 use crate::auditing::audit_owned;
 use crate::{AuditError, refusal_line};
-use cli_parts::{FETCH_MAX, Stop, as_line, fetch_file, end_run, readable, tell};
+use cli_parts::{FETCH_MAX, Stop, as_line, end_run, fetch_file, readable, tell};
 use digest_index::Steps;
 use hmac_sign::Signer;
 use issuer_core::{IssueFile, read_order};

@@ -12,8 +12,8 @@ ghost use Rattle.holder_core.specs.UnsignedPresent.{IsAlgName, IsCallerBinding, 
 
 use crate::{Ask, BindingAsk, CallerAsk, CallerBinding};
 use claim_tree::{PathList, Tree, TreeMap};
-use file_members::{Field, FileFault, pointer_list_member, read_members, text_list_member};
 use compact_form::FILE_MAX;
+use file_members::{Field, FileFault, pointer_list_member, read_members, text_list_member};
 use hmac_sign::{Hs256Key, key_of, keys_member};
 use key_binding::short_text_in;
 use sd_outside::{NoMemory, TextBox, TextList};

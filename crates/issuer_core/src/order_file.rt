@@ -19,9 +19,9 @@ ghost use Rattle.issuer_core.specs.UnsignedOrder.{IsUnsignedOrderFile, IsUnsigne
 
 use crate::{Decoy, DecoyList, Order};
 use claim_tree::{Tree, TreeMap, pointer_of, whole_up_to};
-use file_members::{Field, FileFault, pointer_list_member, read_members, text_member};
 use compact_form::FILE_MAX;
 use disclosure::{HashAlg, hash_named};
+use file_members::{Field, FileFault, pointer_list_member, read_members, text_member};
 use hmac_sign::{Alg, HsKey, KeyShort, alg_named, key_bytes_member};
 use sd_outside::NoMemory;
 use std::alloc::Global;

@@ -1,9 +1,9 @@
 // Signatures that are made apart from the texts that they are over.
 ghost use Rattle.std.specs.Prelude.{◌<◌, length, IfOk};
 
-use file_members::{Field, FileFault};
 use compact_form::print;
 use disclosure::HashAlg;
+use file_members::{Field, FileFault};
 use hmac_sign::{Alg, HsKey, Signer, UnsignedJwt};
 use issuer_core::{IssueError, issue_owned, read_order, read_unsigned_order, to_sign};
 use key_binding::{bind, unsigned_binding};

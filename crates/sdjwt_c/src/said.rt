@@ -6,9 +6,8 @@ ghost use Rattle.sdjwt_c.specs.Numbers.{answer_numbered, answers_numbered};
 ghost use Rattle.sdjwt_c.specs.Said.{SaysAlgs, SaysNoAlgs, IsListText, IsNoListText};
 
 use claim_tree::{ReadError, Tree, read, texts_of};
-
-use file_members::{Field, FileFault};
 use cli_parts::{Stop, unreadable_line};
+use file_members::{Field, FileFault};
 use key_binding::SignatureAnswer;
 use sd_outside::{NoMemory, TextBox, TextList};
 use std::alloc::Global;

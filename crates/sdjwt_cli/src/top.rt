@@ -16,7 +16,7 @@ use crate::show::show;
 use crate::split::split;
 use crate::summary::summary;
 use crate::verify::verify;
-use cli_parts::{FETCH_MAX, Stop, fetch_file, end_run, tell};
+use cli_parts::{FETCH_MAX, Stop, end_run, fetch_file, tell};
 use sd_outside::{Cabinet, Sink, Status};
 use std::alloc::Global;
 

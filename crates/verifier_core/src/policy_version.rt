@@ -10,7 +10,6 @@ ghost use Rattle.verifier_core.specs.PolicyVersion.{IsVersion, IsIssuers, IsAudi
 ghost use Rattle.verifier_core.specs.declared.policy_version.PolicyVersion as seen;
 
 use claim_tree::{Tree, TreeMap, texts_of, whole_up_to};
-
 use file_members::{Field, FileFault};
 use key_binding::{BINDING_TEXT_MAX, short_text_in};
 use sd_outside::{NoMemory, TextBox, TextList};

@@ -11,8 +11,8 @@ ghost use Rattle.wallet_core.specs.declared.query.Equal.{Equal as Seen};
 
 use crate::{Equal, EqualList, Query};
 use claim_tree::{PathList, Tree, TreeMap, copy, pointer_of};
-use file_members::{Field, FileFault, pointer_list_member, read_members};
 use compact_form::FILE_MAX;
+use file_members::{Field, FileFault, pointer_list_member, read_members};
 use hmac_sign::keys_member;
 use sd_outside::NoMemory;
 use std::alloc::Global;

@@ -15,7 +15,7 @@ ghost use Rattle.wallet_core.specs.declared.error.WalletError.TheVariants.{NoAns
 use crate::words::wallet_words;
 use crate::{CredentialList, Picked, Query, QueryFile, WalletError, answer, read_query};
 use claim_tree::{Path, PathList};
-use cli_parts::{FETCH_MAX, Stop, as_line, fetch_file, end_run, readable, tell};
+use cli_parts::{FETCH_MAX, Stop, as_line, end_run, fetch_file, readable, tell};
 use compact_form::print;
 use digest_index::Steps;
 use refusals::{Place, Refusal, placed_line};
