@@ -80,7 +80,7 @@ numbered() {
 words_of() {
     tr -c 'A-Za-z:' '\n' | sed -n 's/^Field::\([A-Z][A-Za-z]*\)$/\1/p' | sort -u |
         while read -r field; do
-            sed -n "s/^field_word Field.$field = codes \"\(.*\)\"\$/\1/p" "$top/crates/claim_tree/specs/FileWords.antt"
+            sed -n "s/^field_word Field.$field = codes \"\(.*\)\"\$/\1/p" "$top/crates/file_members/specs/FileWords.antt"
         done
 }
 
