@@ -76,8 +76,8 @@ failed() {
 share
 names=$(list)
 all=$(echo "$names" | wc -l)
-echo "Proving the $all crates of $crate, one after the other, each by $jobs processes. From nothing this takes about 25"
-echo "minutes on four cores; what was proved on this machine before is not proved again."
+echo "Proving the $all crates of $crate, one after the other, each by $jobs processes. From nothing this takes 30 to"
+echo "40 minutes on four cores; what was proved on this machine before is not proved again."
 : >"$log"
 done=0
 for name in $names; do

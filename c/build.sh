@@ -1,7 +1,7 @@
 #!/bin/sh
 # Builds sdjwt for C into the folder out/ beside this file: lib/libsdjwt.a, lib/libsdjwt.so, lib/pkgconfig/sdjwt.pc,
 # include/sdjwt.h, and the file proved, which says `yes` or `no`. The crate crates/sdjwt_c is proved first, with what it
-# stands on, where that was not done before: from nothing this takes about 25 minutes on four cores.
+# stands on, where that was not done before: from nothing this takes 30 to 40 minutes on four cores.
 #
 #   sh c/build.sh                  builds
 #   sh c/build.sh --prefix DIR     builds, and copies it below DIR
