@@ -5,8 +5,9 @@
     python3 c/fuzz/corpus.py --keep FOLDER    puts those of FOLDER/CALL into found.tar.xz, for each call that is there
 
 Each run of a vector of vectors/ is an input: the files that it reads, with a zero byte between two. What an earlier run
-keeps is found by tests/reference. Runs of other commands, of files that are not there, of files with a zero byte, and
-of more than 16 KiB are left out. found.tar.xz has what a fuzzer found beside these: texts that reach other code.
+keeps is found by tests/reference. To these come cases that tests/fuzz.py and tests/public_keys.py grow. Runs of other
+commands, of files that are not there, of files with a zero byte, and of more than 16 KiB are left out. found.tar.xz has
+what a fuzzer found beside these: texts that reach other code.
 """
 import hashlib
 import io
@@ -18,13 +19,17 @@ from pathlib import Path
 TOP = Path(__file__).resolve().parent.parent.parent
 sys.dont_write_bytecode = True
 sys.setrecursionlimit(20_000)
-sys.path[:0] = [str(TOP / "tests" / "reference"), str(TOP / "vectors")]
+sys.path[:0] = [str(TOP / "tests"), str(TOP / "tests" / "reference"), str(TOP / "vectors")]
+import fuzz  # noqa: E402
 import main as reading  # noqa: E402
+import public_keys  # noqa: E402
 import write  # noqa: E402
 
 FOUND = Path(__file__).resolve().parent / "found.tar.xz"
-CALLS = ("verify", "present", "issue", "show", "convert", "audit", "wallet")
-ALL_CALLS = (*CALLS, "ask", "sign", "step", "sent", "policy")
+CALLS = ("verify", "present", "issue", "show", "split", "convert", "audit", "wallet")
+OF_CALLERS = {"judge": "judge", "issue_ask": "ask", "issue_sign": "sign", "present_ask": "step", "present_sign": "sent"}
+ALL_CALLS = (*CALLS, *OF_CALLERS.values(), "policy")
+GROWN = 200
 FORMS = ("compact", "flat", "general")
 SOME_MOMENT = 1_800_000_000
 LONGEST = 16_384
@@ -80,15 +85,34 @@ def inputs(vector):
             files[run["kept_as"]] = answer.output
 
 
+def joined(call, parts):
+    """The input of a call as its bytes, for each call that takes it; of one that can't be an input nothing."""
+    data = b"\0".join(parts)
+    if data.count(b"\0") == len(parts) - 1 and len(data) <= LONGEST:
+        for name in (call, "policy") if call == "verify" else (call,):
+            yield name, data
+
+
 def of_vectors():
     """The inputs of all vectors, as pairs of a call and its bytes."""
     found = [each for path in sorted((TOP / "vectors").glob("*.json")) for each in json.loads(path.read_text("utf-8"))]
     for vector in found + write.of_tools():
         for call, parts in inputs(vector):
-            data = b"\0".join(parts)
-            if data.count(b"\0") == len(parts) - 1 and len(data) <= LONGEST:
-                for name in (call, "policy") if call == "verify" else (call,):
-                    yield name, data
+            yield from joined(call, parts)
+
+
+def of_growers():
+    """The inputs that are grown, as such pairs."""
+    for number in range(GROWN):
+        for command in CALLS:
+            case = fuzz.Cases(number).grow(command, public_keys.NOW)
+            parts = [fuzz.content(part) for part in case["files"].values()]
+            yield from joined(command, parts + [b"x" * FORMS.index(word) for word in case["words"] if word in FORMS])
+        for command, call in OF_CALLERS.items():
+            case = public_keys.CallerCases(number).grow(command, public_keys.NOW)
+            parts = [fuzz.content(part) for part in case["files"].values()]
+            words = [b"x" * int(word) for word in case["words"] if word.isdigit() and call != "sent"]
+            yield from joined(call, parts + words)
 
 
 def of_fuzzers():
@@ -102,14 +126,14 @@ def of_fuzzers():
 def write_inputs(folder):
     for call in ALL_CALLS:
         (folder / call).mkdir(parents=True, exist_ok=True)
-    for call, data in (*of_vectors(), *of_fuzzers()):
+    for call, data in (*of_vectors(), *of_growers(), *of_fuzzers()):
         (folder / call / name_of(data)).write_bytes(data)
     print(", ".join(f"{call.name}: {len(list(call.iterdir()))}" for call in sorted(folder.iterdir())))
 
 
 def keep(folder):
-    """The new archive: the inputs of the folder that are no vectors', and the old ones of calls that it has not."""
-    known = set(of_vectors())
+    """The new archive: what is in the folder and in no vector and not grown, and the old inputs of calls not in it."""
+    known = {*of_vectors(), *of_growers()}
     new = {(call.name, path.read_bytes()) for call in folder.iterdir() for path in call.iterdir()} - known
     calls = {call.name for call in folder.iterdir()}
     kept = sorted(new | {(call, data) for call, data in of_fuzzers() if call not in calls})

@@ -1,12 +1,12 @@
 /*
  * Fuzzes one call of the C library, by libFuzzer: c/fuzz/run.sh builds it and tells how.
  *
- * The environment's SDJWT_FUZZ names the call: verify, present, issue, ask, sign, step, sent, show, convert, audit, wallet
- * or policy. An input is the files of the call, with a zero byte between two: what stands for its order, policy or query,
- * then its tokens; for ask and sign the name of the algorithm, the seed and the signature; for step the word on the
- * issuer's signature, which is a length; for sent the holder's signature. Each comes to the call in memory of its own and
- * of just its length. What the header promises of an answer is checked: its status, its length, the bytes behind it, and
- * that a call with just as much room answers the same.
+ * The environment's SDJWT_FUZZ names the call: verify, judge, present, issue, ask, sign, step, sent, show, split, convert,
+ * audit, wallet or policy. An input is the files of the call, with a zero byte between two: what stands for its order,
+ * policy or query, then its tokens; for ask and sign the name of the algorithm, the seed and the signature; for judge the
+ * algorithms, the token and two words on signatures, for step one word, which are lengths; for sent the holder's
+ * signature. Each comes to the call in memory of its own and of just its length. What the header promises of an answer is
+ * checked: its status, its length, the bytes behind it, and that a call with just as much room answers the same.
  */
 #include "sdjwt.h"
 
@@ -47,6 +47,26 @@ static sdjwt_status call_verify(const input *given, uint8_t *out, size_t room, s
     return sdjwt_verify(policy.bytes, policy.len, token.bytes, token.len, NOW, out, room, len);
 }
 
+/* A word on a signature is the length of a file. By a handle the verdict has to be the same. */
+static sdjwt_status call_judge(const input *given, uint8_t *out, size_t room, size_t *len) {
+    text policy = part(given, 0), algs = part(given, 1), token = part(given, 2);
+    uint8_t issuer = (uint8_t)part(given, 3).len, holder = (uint8_t)part(given, 4).len;
+    sdjwt_status status = sdjwt_judge(policy.bytes, policy.len, algs.bytes, algs.len, token.bytes, token.len, NOW, issuer,
+                                      holder, out, room, len);
+    sdjwt_policy handle = SDJWT_POLICY_INIT;
+    size_t other_len = 0;
+    uint8_t *other = malloc(room + 1);
+    if (sdjwt_policy_new(&handle, policy.bytes, policy.len, other, room, &other_len) == SDJWT_DONE) {
+        sdjwt_status other_status = sdjwt_policy_judge(&handle, algs.bytes, algs.len, token.bytes, token.len, NOW, issuer,
+                                                       holder, other, room, &other_len);
+        check(status == other_status && *len == other_len, "a handle has another verdict");
+        check(status == SDJWT_UNWRITTEN || memcmp(out, other, *len) == 0, "a handle has another answer");
+    }
+    sdjwt_policy_free(&handle);
+    free(other);
+    return status;
+}
+
 static sdjwt_status call_present(const input *given, uint8_t *out, size_t room, size_t *len) {
     text order = part(given, 0), token = part(given, 1);
     return sdjwt_present(order.bytes, order.len, token.bytes, token.len, NOW, out, room, len);
@@ -82,6 +102,11 @@ static sdjwt_status call_sent(const input *given, uint8_t *out, size_t room, siz
 static sdjwt_status call_show(const input *given, uint8_t *out, size_t room, size_t *len) {
     text token = part(given, 0);
     return sdjwt_show(token.bytes, token.len, out, room, len);
+}
+
+static sdjwt_status call_split(const input *given, uint8_t *out, size_t room, size_t *len) {
+    text token = part(given, 0);
+    return sdjwt_split(token.bytes, token.len, out, room, len);
 }
 
 /* The form is the length of a second file. */
@@ -136,9 +161,9 @@ static const struct {
     const char *name;
     call *made;
 } calls[] = {
-    {"verify", call_verify}, {"present", call_present}, {"issue", call_issue}, {"ask", call_ask}, {"sign", call_sign},
-    {"step", call_step}, {"sent", call_sent},
-    {"show", call_show}, {"convert", call_convert}, {"audit", call_audit}, {"wallet", call_wallet}, {"policy", call_policy},
+    {"verify", call_verify}, {"judge", call_judge}, {"present", call_present}, {"issue", call_issue}, {"ask", call_ask},
+    {"sign", call_sign}, {"step", call_step}, {"sent", call_sent}, {"show", call_show}, {"split", call_split},
+    {"convert", call_convert}, {"audit", call_audit}, {"wallet", call_wallet}, {"policy", call_policy},
 };
 
 static call *chosen;
@@ -159,9 +184,10 @@ int LLVMFuzzerInitialize(int *argc, char ***argv) {
     return 0;
 }
 
-/* Whether a text was written: the answer or a line, and of a step a question or what is to be signed. */
+/* Whether a text was written: the answer or a line; and where signatures are asked for, a question or what is to be signed. */
 static int is_written(sdjwt_status status) {
     return status == SDJWT_DONE || status == SDJWT_REFUSED || status == SDJWT_UNREADABLE ||
+           (chosen == call_judge && (status == SDJWT_ASKS || status == SDJWT_NOT_ASKED)) ||
            (chosen == call_step && (status == SDJWT_ASKS || status == SDJWT_TO_SIGN));
 }
 

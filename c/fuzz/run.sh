@@ -3,13 +3,13 @@
 #
 #   sh c/fuzz/run.sh [--install] [--keep] SECONDS [CALL ..]
 #
-# So many seconds each of verify, present, issue, ask, sign, step, sent, show, convert, audit, wallet and policy, or of
-# the calls that are named. It builds the library without proofs, with the counters by which libFuzzer sees which code an
-# input reaches; so it finds faults of the code and of what it stands on, and proves nothing. It begins with the inputs
-# of corpus.py, and what is found is kept in c/out/fuzz/CALL, where the next run goes on; with --keep those inputs that
-# reach other code than the vectors, the smallest that do, go into c/fuzz/found.tar.xz. An input that fails is left
-# beside this corpus, and the status is not 0. A call may take twenty seconds and 2 GB of memory. It needs a Rattle kit,
-# python3, and clang with its libFuzzer.
+# So many seconds each of verify, judge, present, issue, ask, sign, step, sent, show, split, convert, audit, wallet and
+# policy, or of the calls that are named. It builds the library without proofs, with the counters by which libFuzzer
+# sees which code an input reaches; so it finds faults of the code and of what it stands on, and proves nothing. It
+# begins with the inputs of corpus.py, and what is found is kept in c/out/fuzz/CALL, where the next run goes on; with
+# --keep those inputs that reach other code than these, the smallest that do, go into c/fuzz/found.tar.xz. An input that
+# fails is left beside this corpus, and the status is not 0. A call may take twenty seconds and 2 GB of memory. It needs
+# a Rattle kit, python3, and clang with its libFuzzer.
 set -eu
 refuse() {
     echo "run.sh: $1" >&2
@@ -28,7 +28,7 @@ done
 [ $# -ge 1 ] || refuse 'usage: sh c/fuzz/run.sh [--install] [--keep] SECONDS [CALL ..]'
 seconds=$1
 shift
-[ $# -gt 0 ] || set -- verify present issue ask sign step sent show convert audit wallet policy
+[ $# -gt 0 ] || set -- verify judge present issue ask sign step sent show split convert audit wallet policy
 for tool in rt "${CLANG:=clang}" nm objcopy python3; do
     command -v "$tool" >/dev/null || refuse "there is no $tool on the path"
 done
