@@ -5,7 +5,8 @@
 PROGRAM is a built sdjwt and TOOLS a built sdjwt_tools. Each case is a run: words, and files of which some are recipes
 (tests/grow.py). Status, standard output and the line on standard error are compared. A case that differs is shrunk and
 printed with its files, and the last line tells how many cases ran and how many differed. The cases of one seed are the
-same in each run but for the moments in them, which stand about the moment of the run.
+same in each run but for the moments in them, which stand about the moment of the run. With --seconds the commands share
+the time, so that a dear one has fewer cases; the limits are tried once.
 
 Beside the names of commands there are these: feed judges tokens, a hundred in one run under one policy; texts are
 short lines that are nearly tokens, five hundred in one run; most is a feed whose input is about as long as it may be;
@@ -22,7 +23,7 @@ import subprocess
 import sys
 import tempfile
 import time
-from typing import Any, Callable, Counter, Dict, Iterator, List, Tuple
+from typing import Any, Callable, Counter, Dict, Iterable, Iterator, List, Tuple
 
 HERE = os.path.dirname(os.path.abspath(__file__))
 sys.path[:0] = [os.path.join(HERE, "reference"), HERE]
@@ -583,10 +584,15 @@ class Fuzz:
             if "token" in part:
                 self.seen[f"form: {form_of(part)}"] += 1
 
-    def one(self, command: str, number: int, now: int) -> None:
+    def grow(self, command: str, number: int, now: int) -> Case:
+        """The case of this number, which is the same each time but for its moments."""
+        if command == "limits":
+            return self.limits[number % len(self.limits)]
+        return Cases(self.seed * 1_000_003 + number * 17 + COMMANDS.index(command)).grow(command, now)
+
+    def one(self, command: str, number: int) -> None:
         """One case, or of a feed as many as it has lines."""
-        cases = Cases(self.seed * 1_000_003 + number * 17 + COMMANDS.index(command))
-        case = self.limits[number % len(self.limits)] if command == "limits" else cases.grow(command, now)
+        case = self.grow(command, number, int(time.time()))
         told, answer = self.runner.compare(case)
         if command not in ("feed", "texts") or told.status:
             self.count(command, told, case)
@@ -637,42 +643,64 @@ class Fuzz:
         sys.stdout.flush()
 
 
-def main() -> int:
-    """A run of the fuzz."""
-    words = argparse.ArgumentParser(description="Compares the programs with a second reading of the specification.")
-    words.add_argument("program")
-    words.add_argument("tools")
+    def go(self, most: Dict[str, int], seconds: float) -> None:
+        """So many cases of each command; or for so many seconds, which the commands share."""
+        numbers = dict.fromkeys(most, 0)
+        spent = dict.fromkeys(most, 0.0)
+        begun = time.time()
+        try:
+            while not seconds or time.time() - begun < seconds:
+                wanted = [command for command in most if self.ran[command] < most[command]]
+                if not wanted:
+                    break
+                command = min(wanted, key=lambda each: spent[each])
+                start = time.time()
+                self.one(command, numbers[command])
+                numbers[command] += 1
+                spent[command] += time.time() - start
+        except KeyboardInterrupt:
+            pass  # What has run is told.
+
+    def tell(self, commands: List[str], seconds: float, coverage: bool) -> int:
+        """Prints what ran; the status of the whole."""
+        if coverage:
+            for what, times in sorted(self.seen.items()):
+                print(f"{times:8} {what}")
+        for command in commands:
+            print(f"{command}: {self.ran[command]} cases, {self.differed[command]} differ")
+        if self.passing:
+            print(f"{self.passing} lines of feeds differed once, and not again when they were judged alone")
+        print(f"{sum(self.ran.values())} cases in {seconds:.0f} seconds, {sum(self.differed.values())} differ")
+        return 1 if self.differed else 0
+
+
+def options(description: str, commands: Iterable[str]) -> argparse.ArgumentParser:
+    """What a run of cases takes, but for what it runs."""
+    words = argparse.ArgumentParser(description=description)
     words.add_argument("--seed", type=int, default=1)
     words.add_argument("--count", type=int, default=1000, help="how many cases of each command; of feed, lines")
-    words.add_argument("--seconds", type=float, default=0.0, help="go on with further cases until so many have passed")
-    words.add_argument("--commands", default=",".join(COMMANDS))
+    words.add_argument("--seconds", type=float, default=0.0, help="run cases for so long; the commands share the time")
+    words.add_argument("--commands", default=",".join(commands))
     words.add_argument("--coverage", action="store_true")
+    return words
+
+
+def main() -> int:
+    """A run of the fuzz."""
+    words = options("Compares the programs with a second reading of the specification.", COMMANDS)
+    words.add_argument("program")
+    words.add_argument("tools")
     said = words.parse_args()
-    commands = said.commands.split(",")
     begun = time.time()
     with tempfile.TemporaryDirectory(dir="/dev/shm" if os.path.isdir("/dev/shm") else None) as folder:
         fuzz = Fuzz(Runner(said.program, said.tools, folder), said.seed)
-        most = {**dict.fromkeys(commands, said.count), "gen": min(said.count, 40), "limits": len(fuzz.limits)}
-        number = 0
-        wanted = commands
-        try:
-            while wanted and (not said.seconds or time.time() - begun < said.seconds):
-                for command in wanted:
-                    fuzz.one(command, number, int(time.time()))
-                number += 1
-                wanted = commands if said.seconds else [each for each in commands if fuzz.ran[each] < most[each]]
-        except KeyboardInterrupt:
-            pass  # What has run is told.
-    if said.coverage:
-        for what, times in sorted(fuzz.seen.items()):
-            print(f"{times:8} {what}")
-    for command in commands:
-        print(f"{command}: {fuzz.ran[command]} cases, {fuzz.differed[command]} differ")
-    if fuzz.passing:
-        print(f"{fuzz.passing} lines of feeds differed once, and not again when they were judged alone")
-    seconds = time.time() - begun
-    print(f"{sum(fuzz.ran.values())} cases in {seconds:.0f} seconds, {sum(fuzz.differed.values())} differ")
-    return 1 if fuzz.differed else 0
+        most = dict.fromkeys(said.commands.split(","), sys.maxsize if said.seconds else said.count)
+        if not said.seconds and "gen" in most:
+            most["gen"] = min(said.count, 40)
+        if "limits" in most:
+            most["limits"] = len(fuzz.limits)  # They are the same cases each time.
+        fuzz.go(most, said.seconds)
+    return fuzz.tell(list(most), time.time() - begun, said.coverage)
 
 
 if __name__ == "__main__":

@@ -51,7 +51,7 @@ def pointer(value: Tree) -> Path:
     _check(text(value)[:1] in ("", "/") and not re.search("~(?![01])", value))
     return tuple(step.replace("~1", "/").replace("~0", "~") for step in value.split("/")[1:])
 
-_PLACES = (array(pointer), [])
+PLACES = (array(pointer), [])
 
 def octets(value: Tree) -> bytes:
     """A key: the code of at least 32 bytes."""
@@ -66,7 +66,7 @@ def key_set(value: Tree) -> list[Key]:
     return [Key(octets(each.get("k")), text(each["kid"]) if "kid" in each else None)
             for each in value["keys"] if text(each.get("kty")) == "oct"]
 
-def _read_table(data: bytes, table_of: Callable[[Said], Table]) -> Said:
+def read_table(data: bytes, table_of: Callable[[Said], Table]) -> Said:
     """The faults in their order; of missing and wrong the first member of the table is named."""
     _check(len(data) <= FILE_MAX, "tooLong")
     value = read(data)
@@ -92,7 +92,7 @@ def read_policy(data: bytes) -> Said:
         return {"version": (whole(1, 2), 1), "keys": (key_set,), "algs": (array(text), ["HS256"]),
                 "typ": (text, None), "iss": (iss, None), "require": (array(text), []),
                 "skew": (whole(0, 3600), 0), "binding": (binding, None)}
-    return _read_table(data, table)
+    return read_table(data, table)
 
 def read_order(data: bytes) -> Said:
     """What an issuer is asked for, and the key that signs."""
@@ -101,20 +101,20 @@ def read_order(data: bytes) -> Said:
             _check(len(octets(value["key"])) >= ALGORITHMS[one_of(ALGORITHMS)(name)])
             return name
         decoys = array(members(at=pointer, count=whole(0, 32_768)))
-        return {"payload": (lambda any_value: any_value,), "hide": _PLACES, "decoys": (decoys, []), "key": (octets,),
+        return {"payload": (lambda any_value: any_value,), "hide": PLACES, "decoys": (decoys, []), "key": (octets,),
                 "kid": (text, None), "typ": (text, None), "alg": (alg, "HS256"), "sd_alg": (one_of(HASHES), "sha-256")}
-    return _read_table(data, table)
+    return read_table(data, table)
 
 def read_present_order(data: bytes) -> Said:
     """What a holder is asked to show, and under which rule."""
     binding = members(key=octets, kid=text, aud=short_text, nonce=short_text)
-    return _read_table(data, lambda _: {
-        "keys": (key_set,), "want": _PLACES, "never": _PLACES, "binding": (binding, None)})
+    return read_table(data, lambda _: {
+        "keys": (key_set,), "want": PLACES, "never": PLACES, "binding": (binding, None)})
 
 def read_query(data: bytes) -> Said:
     """What a wallet is asked."""
     equal = array(members(at=pointer, value=scalar))
-    return _read_table(data, lambda _: {"keys": (key_set,), "want": _PLACES, "equal": (equal, []), "never": _PLACES})
+    return read_table(data, lambda _: {"keys": (key_set,), "want": PLACES, "equal": (equal, []), "never": PLACES})
 
 def read_seed(data: bytes) -> bytes:
     """The first 32 bytes."""

@@ -1,8 +1,8 @@
 """A second reading of the programs sdjwt and sdjwt_tools: python3 tests/reference/main.py WORDS..
 
-It is written from docs/SPECIFICATION.md and the RFCs that it names, and not from the code. Its modules are best read
-in this order: outcome (limits, numbers and names), texts, tokens, files, verify (and present, and the wallet), issue
-(and gen, and the audit). Left out are want of memory, and an output or a source that fails.
+It is written from docs/SPECIFICATION.md and the RFCs that it names, not from the code. Best read are outcome (limits,
+numbers and names), texts, tokens, files, verify (with present and the wallet) and issue (with gen and the audit), in
+this order. Left out are want of memory, and an output or a source that fails.
 """
 
 from __future__ import annotations
@@ -73,8 +73,7 @@ def run(words: list[str], fetch: Callable[[str], bytes | None], now: int, source
     if None in data:
         return Answer(3, b"", f"unread {names[data.index(None)][0]}")
     answers: dict[str, Callable[[], str]] = {
-        "split": lambda: split(tokens.read_token(data[0])),
-        "show": lambda: show(tokens.read_token(data[0])),
+        "split": lambda: split(tokens.read_token(data[0])), "show": lambda: show(tokens.read_token(data[0])),
         "verify": lambda: write(verify(files.read_policy(data[0]), tokens.read_token(data[1]), now)),
         "issue": lambda: issue(files.read_order(data[0]), files.read_seed(data[1])).compact(),
         "present": lambda: present(files.read_present_order(data[0]), tokens.read_token(data[1]), now).compact(),

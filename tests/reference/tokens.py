@@ -89,12 +89,12 @@ def _text_member(members: Members, name: str) -> str:
     refuse(2, not is_base64url(members[name]), f"wrong {name}")
     return members[name]
 
-def read_header(protected: str, unprotected: Members) -> Members:
-    """The protected header with kid and crit of the unprotected one (RFC 7515 section 4); or condition 5."""
+def read_header(protected: str, unprotected: Members, number: int = 5) -> Members:
+    """The protected header with kid and crit of the unprotected one (RFC 7515 section 4); or a condition, mostly 5."""
     members = carried(protected)
-    refuse(5, members is None or not unprotected.keys().isdisjoint(members))
+    refuse(number, members is None or not unprotected.keys().isdisjoint(members))
     both = {**{name: unprotected[name] for name in ("kid", "crit") if name in unprotected}, **members}
-    refuse(5, not all(isinstance(each, str) for each in (both.get("alg"), both.get("typ", ""), both.get("kid", ""))))
+    refuse(number, not all(isinstance(one, str) for one in (both.get("alg"), both.get("typ", ""), both.get("kid", ""))))
     return both
 
 def read_content(token: Token) -> tuple[Members, list[Disclosure], str]:

@@ -113,13 +113,16 @@ def verify(policy: Said, token: Token, now: int) -> Members:
     """The processed payload, or the lowest of conditions 4 to 38 that fails."""
     refuse(4, policy["binding"] is not None and token.binding is None)  # RFC 9901 section 7.3, step 1.
     judged = judge_signed(token, policy["keys"], policy["algs"], policy["typ"])
-    claims, iss = judged.claims, judged.claims.get("iss")
-    refuse(22, policy["iss"] is not None and not (isinstance(iss, str) and iss in policy["iss"]))
+    judge_claims(policy, judged.claims, now)
+    if policy["binding"] is not None:
+        _judge_holder(policy, token, judged, now)
+    return judged.claims
+
+def judge_claims(policy: Said, claims: Members, now: int) -> None:
+    """Conditions 22 to 26."""
+    refuse(22, policy["iss"] is not None and not any(claims.get("iss") == name for name in policy["iss"]))
     refuse_first(23, (name not in claims for name in policy["require"]))
     _judge_times(claims, now, policy["skew"], 24, 25, 26)
-    if policy["binding"] is not None:
-        _judge_binding(policy["binding"], policy["skew"], token, judged, now)
-    return claims
 
 def _judge_times(claims: Members, now: int, skew: int, unreadable: int, expired: int, early: int) -> None:
     """RFC 7519 sections 4.1.4 and 4.1.5, by the numbers of three conditions."""
@@ -132,28 +135,29 @@ def holder_kid(claims: Members) -> str | None:
     kid = at(claims, ("cnf", "kid"))[1]
     return kid if isinstance(kid, str) else None
 
-def _judge_binding(wish: Said, skew: int, token: Token, judged: Judged, now: int) -> None:
-    """RFC 9901 section 7.3, step 5: conditions 27 to 38."""
+def _judge_holder(policy: Said, token: Token, judged: Judged, now: int) -> None:
+    """RFC 9901 section 7.3, step 5: conditions 27 to 30, and the rest."""
     kid = holder_kid(judged.claims)
-    key = None if kid is None else pick(wish["keys"], "HS256", kid)
+    key = None if kid is None else pick(policy["binding"]["keys"], "HS256", kid)
     refuse(27, key is None)
     protected, payload, signature = str(token.binding).split(".")
-    try:
-        header = read_header(protected, {})
-    except Refused:
-        raise Refused(28) from None
+    header = read_header(protected, {}, 28)
     refuse(28, "crit" in header)
     refuse(29, header["alg"] != "HS256")
     refuse(30, signature != sign(protected, payload, key.octets, "HS256"))
-    refuse(31, header.get("typ") != "kb+jwt")
-    said = carried(payload) or {}
+    judge_binding(policy, header.get("typ"), carried(payload) or {}, digest_of(token.hashed(), judged.hash_name), now)
+
+def judge_binding(policy: Said, typ: str | None, said: Members, sd_hash: str, now: int) -> None:
+    """What a key binding token says, behind its signature: conditions 31 to 38."""
+    wish, skew = policy["binding"], policy["skew"]
+    refuse(31, typ != "kb+jwt")
     iat, *texts = (said.get(name) for name in ("iat", "aud", "nonce", "sd_hash"))
     refuse(32, not is_whole(iat) or not all(isinstance(each, str) for each in texts))
     refuse(33, now > iat + wish["max_age"] + skew)
     refuse(34, iat > now + skew)
     refuse(35, said["nonce"] != wish["nonce"])
     refuse(36, said["aud"] not in wish["aud"])
-    refuse(37, said["sd_hash"] != digest_of(token.hashed(), judged.hash_name))
+    refuse(37, said["sd_hash"] != sd_hash)
     _judge_times(said, now, skew, 38, 38, 38)
 
 def judge_held(token: Token, keys: list[Key]) -> Judged:
@@ -161,27 +165,25 @@ def judge_held(token: Token, keys: list[Key]) -> Judged:
     refuse(71, token.binding is not None)
     return judge_signed(token, keys, ALGORITHMS)
 
-def choose(order: Said, token: Token) -> tuple[Judged, list[int]]:
-    """What is held, and the least choice of disclosures that shows what is wanted; or a refusal up to 73."""
-    held = judge_held(token, order["keys"])
+def choose(order: Said, held: Judged) -> list[int]:
+    """The least choice of disclosures that shows what is wanted, or refusal 72 or 73."""
     refuse_first(72, (not at(held.claims, path)[0] for path in order["want"]))
     chosen = [number for number, place in enumerate(held.places)
               if any(path[:len(place)] == place for path in order["want"])]
     for number in chosen:
         refuse(73, any(held.places[number][:len(path)] == path for path in order["never"]), number)
-    return held, chosen
+    return chosen
 
 def present(order: Said, token: Token, now: int) -> Token:
     """The token with the least choice of disclosures, and the key binding token that is asked for."""
-    held, numbers = choose(order, token)
-    shown = token.showing(numbers)
-    wish = order["binding"]
+    held = judge_held(token, order["keys"])
+    shown, wish = token.showing(choose(order, held)), order["binding"]
     if wish is not None:  # RFC 9901 section 4.3.
         seen = process(*read_content(shown))
         refuse(74, holder_kid(seen.claims) != wish["kid"])
         header = written({"alg": "HS256", "typ": "kb+jwt"})
         payload = written({"aud": wish["aud"], "iat": now, "nonce": wish["nonce"],
-                                    "sd_hash": digest_of(shown.hashed(), held.hash_name)})
+                           "sd_hash": digest_of(shown.hashed(), held.hash_name)})
         shown.binding = f"{header}.{payload}.{sign(header, payload, wish['key'], 'HS256')}"
     refuse(75, len(shown.compact()) > COMPACT_MAX)
     return shown
@@ -193,7 +195,8 @@ def wallet(query: Said, credentials: list[bytes]) -> str:
     for number, data in enumerate(credentials):
         try:
             token = read_token(data)
-            held, numbers = choose(asked, token)
+            held = judge_held(token, query["keys"])
+            numbers = choose(asked, held)
         except Refused:
             continue
         if all(write(at(held.claims, entry["at"])[1]) == write(entry["value"]) for entry in query["equal"]):

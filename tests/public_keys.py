@@ -1,0 +1,382 @@
+"""Compares the calls of the C library whose caller checks and makes the signatures with a second reading.
+
+    python3 tests/public_keys.py LIBRARY [--seed N] [--count N] [--seconds S] [--commands a,b,..] [--coverage]
+
+LIBRARY is a built libsdjwt.so, as c/build.sh leaves it in c/out/lib. The reading is tests/reference with what
+docs/SPECIFICATION.md, docs/FILES.md and c/sdjwt.h say of such a caller. Each case is one call, named by a command, at
+one moment: what the caller says of a signature is drawn too, so that a question comes, or a verdict over what was said,
+or none. Whatever the library judges under a policy is judged by a handle of that policy as well. Cases are grown,
+compared, shrunk and counted as those of tests/fuzz.py.
+"""
+
+import ctypes
+import os
+import re
+import sys
+import time
+from ctypes import c_char_p, c_size_t, c_uint8, c_uint64
+from typing import Any, Callable, Dict, List, Optional, Tuple
+
+sys.path[:0] = [os.path.dirname(os.path.abspath(__file__))]
+import fuzz  # noqa: E402
+import grow  # noqa: E402
+from files import PLACES, array, members, pointer, read_policy, read_seed, read_table, short_text, text  # noqa: E402
+from files import one_of, whole  # noqa: E402
+from fuzz import Answer, Case, Cases, content  # noqa: E402
+from issue import header_text, issue  # noqa: E402
+from outcome import COMPACT_MAX, ISSUE_MAX, Refused, Unreadable, refuse  # noqa: E402
+from texts import HASHES, carried, decode, digest_of, encode, read, write, written  # noqa: E402
+from tokens import Token, read_content, read_header, read_token  # noqa: E402
+from verify import Judged, choose, holder_kid, judge_binding, judge_claims, process  # noqa: E402
+
+DONE, REFUSED, USAGE, UNWRITTEN, UNREADABLE, ASKS, NOT_ASKED, TO_SIGN = 0, 1, 2, 4, 6, 7, 8, 9
+UNSAID, UNKNOWN, BAD, GOOD = 0, 1, 2, 3
+NOW = 1_800_000_000
+# The parameters of each call: bytes, a moment, and what is said of a signature.
+CALLS = {"judge": "bbbmss", "issue_ask": "bbb", "issue_sign": "bbbb", "present_ask": "bbms", "present_sign": "bbmsb"}
+TAKEN = ["ES256", "ES256", "EdDSA", "PS256", "\u00e9", "es256", "None", "hs256"]
+NEVER_TAKEN = ["HS256", "HS384", "HS512", "HS", "HSX", "none", ""]
+
+
+# The reading ----------------------------------------------------------------------------------------------------------
+
+class Ended(Exception):
+    """A call that ends by another status than a refusal or a fault of a file, and with this output."""
+
+
+class Caller:
+    """What a caller says of the signatures, in the order in which it is asked."""
+
+    def __init__(self, *words: int) -> None:
+        self.words = list(words)
+
+    def judge(self, unknown: int, bad: int, jwt: List[str], question: Dict[str, Any]) -> None:
+        """Asks about a signature, or refuses by one of two conditions where it is not called good."""
+        refuse(bad, decode(jwt[2]) is None)
+        word = self.words.pop(0)
+        if word == UNSAID:
+            raise Ended(ASKS, write({**question, "text": f"{jwt[0]}.{jwt[1]}", "signature": jwt[2]}) + "\n")
+        refuse(unknown, word == UNKNOWN)
+        refuse(bad, word == BAD)
+
+
+def is_taken(alg: str, algs: List[str]) -> bool:
+    return alg in algs and alg not in ("", "none") and not alg.startswith("HS")
+
+
+def named(asked: str, header: Dict[str, Any]) -> Dict[str, Any]:
+    return {"ask": asked, **{name: header[name] for name in ("alg", "kid", "typ") if name in header}}
+
+
+def judge_issued(token: Token, algs: List[str], caller: Caller, typ: Optional[str] = None) -> Judged:
+    """Conditions 5 to 21, where the caller checks the issuer's signature."""
+    header = read_header(token.protected, token.unprotected)
+    refuse(6, "crit" in header)
+    refuse(7, not is_taken(header["alg"], algs))
+    refuse(8, typ is not None and header.get("typ") != typ)
+    caller.judge(9, 10, [token.protected, token.payload, token.signature], named("issuer", header))
+    return process(*read_content(token))
+
+
+def verdict(policy: Dict[str, Any], algs: List[str], token: Token, caller: Caller) -> Dict[str, Any]:
+    """The processed payload, or the lowest of conditions 4 to 38 that fails over what the caller says."""
+    refuse(4, policy["binding"] is not None and token.binding is None)
+    judged = judge_issued(token, policy["algs"], caller, policy["typ"])
+    judge_claims(policy, judged.claims, NOW)
+    if policy["binding"] is not None:
+        jwt = str(token.binding).split(".")
+        header = read_header(jwt[0], {}, 28)
+        refuse(28, "crit" in header)
+        refuse(29, not is_taken(header["alg"], algs))
+        caller.judge(27, 30, jwt, {**named("holder", header), "payload": judged.claims})
+        said, sd_hash = carried(jwt[1]) or {}, digest_of(token.hashed(), judged.hash_name)
+        judge_binding(policy, header.get("typ"), said, sd_hash, NOW)
+    return judged.claims
+
+
+def read_algs(data: bytes, policy: Dict[str, Any]) -> List[str]:
+    """The algorithms that are taken of the holder."""
+    if not data:
+        return policy["algs"]
+    try:
+        return array(text)(read(data))
+    except Unreadable:
+        raise Ended(UNREADABLE, "unreadable 2 wrong algs\n") from None
+
+
+def judge(policy_file: bytes, algs_file: bytes, token_file: bytes, issuer: int, holder: int) -> str:
+    if issuer > GOOD or holder > GOOD or (holder != UNSAID and issuer != GOOD):
+        raise Ended(USAGE, "")
+    policy = read_policy(policy_file)
+    algs, caller = read_algs(algs_file, policy), Caller(issuer, holder)
+    try:
+        told: Any = write(verdict(policy, algs, read_token(token_file), caller)) + "\n"
+    except Refused as refusal:
+        told = refusal
+    if any(caller.words):  # Something was said that is not asked for.
+        raise Ended(NOT_ASKED, "notAsked\n")
+    if isinstance(told, Refused):
+        raise told
+    return told
+
+
+def is_algorithm(alg: bytes) -> bool:
+    """Whether a caller may sign by what is called so."""
+    try:
+        return alg.decode() not in ("", "none")
+    except UnicodeDecodeError:
+        return False
+
+
+def laid_out(order_file: bytes, alg: bytes, seed_file: bytes) -> Token:
+    """The token of an order without keys, whose signature is not there yet."""
+    if not is_algorithm(alg):
+        raise Ended(USAGE, "")
+    decoys = array(members(at=pointer, count=whole(0, 32_768)))
+    order = read_table(order_file, lambda _: {
+        "payload": (lambda any_value: any_value,), "hide": PLACES, "decoys": (decoys, []), "kid": (text, None),
+        "typ": (text, None), "sd_alg": (one_of(HASHES), "sha-256")})
+    token = issue({**order, "key": b"", "alg": "HS256"}, read_seed(seed_file))
+    return Token(header_text({**order, "alg": alg.decode()}), token.payload, "", token.disclosures)
+
+
+def issue_ask(order_file: bytes, alg: bytes, seed_file: bytes) -> str:
+    token = laid_out(order_file, alg, seed_file)
+    return f"{token.protected}.{token.payload}"
+
+
+def issue_sign(order_file: bytes, alg: bytes, seed_file: bytes, signature: bytes) -> str:
+    if not signature:
+        raise Ended(USAGE, "")
+    token = laid_out(order_file, alg, seed_file)
+    token.signature = encode(signature)
+    refuse(61, len(token.compact()) > ISSUE_MAX)
+    return token.compact() + "\n"
+
+
+def read_binding(value: Any) -> Dict[str, Any]:
+    """The key binding token that a present order without keys asks for."""
+    forms = {"aud": short_text, "nonce": short_text, "alg": text, "kid": text}
+    if isinstance(value, dict) and "kid" not in value:
+        del forms["kid"]
+    said = {"kid": None, **members(**forms)(value)}
+    if said["alg"] in ("", "none"):
+        raise Unreadable("wrong")
+    return said
+
+
+def unsigned(order_file: bytes, token_file: bytes, issuer: int) -> Tuple[Token, Optional[str]]:
+    """What is shown, and the text of the key binding token that is asked for."""
+    order = read_table(order_file, lambda _: {
+        "algs": (array(text),), "want": PLACES, "never": PLACES, "binding": (read_binding, None)})
+    token = read_token(token_file)
+    refuse(71, token.binding is not None)
+    held = judge_issued(token, order["algs"], Caller(issuer))
+    shown, wish = token.showing(choose(order, held)), order["binding"]
+    if wish is None:
+        return shown, None
+    told = holder_kid(process(*read_content(shown)).claims)
+    refuse(74, wish["kid"] is not None and told != wish["kid"])
+    payload = {"aud": wish["aud"], "iat": NOW, "nonce": wish["nonce"],
+               "sd_hash": digest_of(shown.hashed(), held.hash_name)}
+    return shown, f"{written({'alg': wish['alg'], 'typ': 'kb+jwt'})}.{written(payload)}"
+
+
+def present_ask(order_file: bytes, token_file: bytes, issuer: int) -> str:
+    if issuer > GOOD:
+        raise Ended(USAGE, "")
+    shown, asked = unsigned(order_file, token_file, issuer)
+    if asked is not None:
+        raise Ended(TO_SIGN, asked)
+    refuse(75, len(shown.compact()) > COMPACT_MAX)
+    return shown.compact() + "\n"
+
+
+def present_sign(order_file: bytes, token_file: bytes, issuer: int, signature: bytes) -> str:
+    if issuer not in (UNKNOWN, BAD, GOOD) or not signature:
+        raise Ended(USAGE, "")
+    shown, asked = unsigned(order_file, token_file, issuer)
+    shown.binding = asked and f"{asked}.{encode(signature)}"
+    refuse(75, len(shown.compact()) > COMPACT_MAX)
+    return shown.compact() + "\n"
+
+
+READINGS: Dict[str, Callable[..., str]] = {
+    "judge": judge, "issue_ask": issue_ask, "issue_sign": issue_sign, "present_ask": present_ask,
+    "present_sign": present_sign}
+
+
+def answer_of(status: int, output: bytes) -> Answer:
+    """An answer, in which a line that tells why there is none stands by itself, without its end."""
+    if status in (REFUSED, UNREADABLE, NOT_ASKED) and output.endswith(b"\n"):
+        return Answer(status, b"", output[:-1].decode())
+    return Answer(status, output, "")
+
+
+def reading(call: str, inputs: List[Any]) -> Answer:
+    """What the call answers by the reading."""
+    try:
+        return answer_of(DONE, READINGS[call](*inputs).encode())
+    except Refused as refusal:
+        return answer_of(REFUSED, f"{refusal}\n".encode())
+    except Unreadable as fault:
+        return answer_of(UNREADABLE, f"unreadable {2 if fault.args[0] == 'short' else 1} {fault}\n".encode())
+    except Ended as end:
+        return answer_of(end.args[0], end.args[1].encode())
+
+
+# Running --------------------------------------------------------------------------------------------------------------
+
+class Library:
+    """Runs the library and the reading over the same bytes."""
+
+    def __init__(self, path: str) -> None:
+        self.library = ctypes.CDLL(os.path.abspath(path))
+        self.room = ctypes.create_string_buffer(1 << 16)
+
+    def call(self, name: str, *parameters: Any) -> Answer:
+        function, length = getattr(self.library, "sdjwt_" + name), c_size_t()
+        function.restype = c_uint8
+        status = function(*parameters, self.room, c_size_t(len(self.room)), ctypes.byref(length))
+        if status == UNWRITTEN:
+            self.room = ctypes.create_string_buffer(length.value)
+            return self.call(name, *parameters)
+        return answer_of(status, self.room.raw[:length.value])
+
+    def by_handle(self, policy: bytes, *others: Any) -> Answer:
+        """What sdjwt_policy_judge answers, or the handle that could not be made."""
+        handle = ctypes.c_void_p()
+        made = self.call("policy_new", ctypes.byref(handle), c_char_p(policy), c_size_t(len(policy)))
+        if made.status != DONE:
+            return made
+        answer = self.call("policy_judge", ctypes.byref(handle), *others)
+        self.library.sdjwt_policy_free(ctypes.byref(handle))
+        return answer
+
+    def compare(self, case: Case) -> Tuple[Answer, Answer]:
+        """The answer of the library, and that of the reading."""
+        call, *words = case["words"]
+        inputs = [content(case["files"][word]) if word in case["files"] else int(word) for word in words]
+        parameters: List[Any] = []
+        waiting = list(inputs)
+        for kind in CALLS[call]:
+            if kind == "m":
+                parameters.append(c_uint64(NOW))
+            elif kind == "s":
+                parameters.append(c_uint8(waiting.pop(0)))
+            else:
+                data = waiting.pop(0)
+                parameters += [c_char_p(data), c_size_t(len(data))]
+        told, answer = self.call(call, *parameters), reading(call, inputs)
+        if call == "judge" and told == answer and told.status != USAGE:
+            told = self.by_handle(inputs[0], *parameters[2:])
+        return told, answer
+
+
+class CallerCases(Cases):
+    """Grows a case for each call."""
+
+    def signed(self, spoils: List[int], bound: float) -> Dict[str, Any]:
+        """A token by an algorithm that a caller may check, whose key binding token is so too."""
+        grower = self.grower
+        recipe = grower.token(NOW, bound)
+        for part in (recipe, recipe["binding"]):
+            if part:
+                alg = grower.one(TAKEN if grower.maybe(0.95) else NEVER_TAKEN)
+                part["header"] = re.sub("HS(256|384|512)", alg, part["header"])
+        for _ in range(grower.one(spoils)):
+            try:
+                grower.spoil(recipe, NOW)
+            except (RecursionError, IndexError):
+                pass
+        return {"token": recipe}
+
+    def said(self, part: Dict[str, Any]) -> Any:
+        try:
+            token = read_token(content(part))
+            token.binding = None
+            algs = [read_header(token.protected, token.unprotected)["alg"]]
+            return judge_issued(token, algs, Caller(GOOD)).claims
+        except Refused:
+            return {"a": [{"b": 1}], "iss": 1}
+
+    def algs(self) -> List[str]:
+        """Mostly a list with each algorithm that is taken of some."""
+        grower = self.grower
+        return grower.one([TAKEN + NEVER_TAKEN] * 20 + [TAKEN[:1], NEVER_TAKEN, []])
+
+    def word(self, good: float) -> int:
+        return GOOD if self.grower.maybe(good) else self.grower.one([UNSAID, UNSAID, UNSAID, UNKNOWN, BAD, 4, 255])
+
+    def signature(self) -> Dict[str, Any]:
+        return {"text": "".join(self.grower.one("sig\0\u00e9\udcff") for _ in range(self.grower.one([0, 1, 2, 3, 64])))}
+
+    def judged(self) -> Case:
+        grower = self.grower
+        bound = grower.maybe(0.6)
+        policy = self.policy(bound)
+        policy["algs"] = self.algs()
+        issuer = self.word(0.8)
+        holder = self.word(0.7) if issuer == GOOD and grower.maybe(0.7 if bound else 0.1) else UNSAID
+        algs = {"text": ""} if grower.maybe(0.5) else self.spoilt_text(self.algs(), 0.2)
+        return {"words": ["judge", "policy.json", "algs.json", "token.txt", str(issuer), str(holder)],
+                "files": {"policy.json": self.spoilt_text(policy, 0.2), "algs.json": algs,
+                          "token.txt": self.signed([0, 0, 1, 1, 2], 0.95 if bound else 0.2)}}
+
+    def issued(self, call: str) -> Case:
+        grower = self.grower
+        order = self.order() if grower.maybe(0.6) else self._odd_order()
+        for name in ("key", "alg"):
+            if grower.maybe(0.98):
+                order.pop(name, None)
+        alg = grower.one(TAKEN + NEVER_TAKEN + ["A\0B", "\udcff"])
+        files = {"order.json": self.spoilt_text(order, 0.2), "alg.txt": {"text": alg}, "seed.txt": self.seed_text()}
+        if call == "issue_sign":
+            files["signature"] = self.signature()
+        return {"words": [call, *files], "files": files}
+
+    def presented(self, call: str) -> Case:
+        grower = self.grower
+        token = self.signed([0, 0, 0, 1], 0.05)
+        order = {**self.present_order(self.said(token)), "algs": self.algs()}
+        if grower.maybe(0.98):
+            del order["keys"]
+        if "binding" in order:
+            order["binding"]["alg"] = grower.one(TAKEN * 2 + NEVER_TAKEN)
+            for name, share in (("key", 0.98), ("kid", 0.5)):
+                if grower.maybe(share):
+                    del order["binding"][name]
+        files = {"order.json": self.spoilt_text(order, 0.2), "token.txt": token}
+        words = [call, *files, str(self.word(0.85))]
+        if call == "present_sign":
+            files["signature"] = self.signature()
+            words.append("signature")
+        return {"words": words, "files": files}
+
+    def grow(self, command: str, now: int) -> Case:
+        if command == "judge":
+            return self.judged()
+        return self.issued(command) if command.startswith("issue") else self.presented(command)
+
+
+class CallerFuzz(fuzz.Fuzz):
+    """A run of cases of callers."""
+
+    def grow(self, command: str, number: int, now: int) -> Case:
+        return CallerCases(self.seed * 1_000_003 + number * 17 + list(CALLS).index(command)).grow(command, now)
+
+
+def main() -> int:
+    """A run over the library."""
+    words = fuzz.options("Compares the calls of those who check and sign with a second reading.", CALLS)
+    words.add_argument("library")
+    said = words.parse_args()
+    begun = time.time()
+    run = CallerFuzz(Library(said.library), said.seed)
+    commands = said.commands.split(",")
+    run.go(dict.fromkeys(commands, sys.maxsize if said.seconds else said.count), said.seconds)
+    return run.tell(commands, time.time() - begun, said.coverage)
+
+
+if __name__ == "__main__":
+    sys.exit(main())
