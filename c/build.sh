@@ -5,7 +5,7 @@
 #
 #   sh c/build.sh                  builds
 #   sh c/build.sh --prefix DIR     builds, and copies it below DIR
-#   sh c/build.sh --look           builds without proofs, in a minute or two, for a first look: what it builds is slow
+#   sh c/build.sh --look           builds without proofs, in a minute or two, for a first look
 #
 # It needs a Rattle kit, whose rt is on the path, and a C compiler with binutils. CC and CFLAGS are taken as they are.
 set -eu
