@@ -65,7 +65,7 @@ echo 'With each request for memory refused in turn:'
 "$made/memory" "$here/../examples/walk"
 
 echo 'Where the caller checks and makes the signatures, beside a second reading:'
-python3 "$here/../tests/public_keys.py" "$lib/libsdjwt.so" --count 200
+python3 "$here/../tests/library.py" "$lib/libsdjwt.so" --count 200
 
 # The programs over OpenSSL that docs/C.md names: one verifies, and the other issues and presents.
 if echo '#include <openssl/evp.h>' | "$CC" -E - >/dev/null 2>&1; then

@@ -5,7 +5,7 @@
     python3 c/fuzz/corpus.py --keep FOLDER    puts those of FOLDER/CALL into found.tar.xz, for each call that is there
 
 Each run of a vector of vectors/ is an input: the files that it reads, with a zero byte between two. What an earlier run
-keeps is found by tests/reference. To these come cases that tests/fuzz.py and tests/public_keys.py grow. Runs of other
+keeps is found by tests/reference. To these come cases that tests/fuzz.py and tests/library.py grow. Runs of other
 commands, of files that are not there, of files with a zero byte, and of more than 16 KiB are left out. found.tar.xz has
 what a fuzzer found beside these: texts that reach other code.
 """
@@ -21,8 +21,8 @@ sys.dont_write_bytecode = True
 sys.setrecursionlimit(20_000)
 sys.path[:0] = [str(TOP / "tests"), str(TOP / "tests" / "reference"), str(TOP / "vectors")]
 import fuzz  # noqa: E402
+import library  # noqa: E402
 import main as reading  # noqa: E402
-import public_keys  # noqa: E402
 import write  # noqa: E402
 
 FOUND = Path(__file__).resolve().parent / "found.tar.xz"
@@ -105,11 +105,11 @@ def of_growers():
     """The inputs that are grown, as such pairs."""
     for number in range(GROWN):
         for command in CALLS:
-            case = fuzz.Cases(number).grow(command, public_keys.NOW)
+            case = fuzz.Cases(number).grow(command, library.NOW)
             parts = [fuzz.content(part) for part in case["files"].values()]
             yield from joined(command, parts + [b"x" * FORMS.index(word) for word in case["words"] if word in FORMS])
         for command, call in OF_CALLERS.items():
-            case = public_keys.CallerCases(number).grow(command, public_keys.NOW)
+            case = library.LibraryCases(number).grow(command, library.NOW)
             parts = [fuzz.content(part) for part in case["files"].values()]
             words = [b"x" * int(word) for word in case["words"] if word.isdigit() and call != "sent"]
             yield from joined(call, parts + words)

@@ -1,12 +1,12 @@
-"""Compares the calls of the C library whose caller checks and makes the signatures with a second reading.
+"""Compares the calls of the C library with a second reading.
 
-    python3 tests/public_keys.py LIBRARY [--seed N] [--count N] [--seconds S] [--commands a,b,..] [--coverage]
+    python3 tests/library.py LIBRARY [--seed N] [--count N] [--seconds S] [--commands a,b,..] [--coverage]
 
-LIBRARY is a built libsdjwt.so, as c/build.sh leaves it in c/out/lib. The reading is tests/reference with what
-docs/SPECIFICATION.md, docs/FILES.md and c/sdjwt.h say of such a caller. Each case is one call, named by a command, at
-one moment: what the caller says of a signature is drawn too, so that a question comes, or a verdict over what was said,
-or none. Whatever the library judges under a policy is judged by a handle of that policy as well. Cases are grown,
-compared, shrunk and counted as those of tests/fuzz.py.
+LIBRARY is a built libsdjwt.so, as c/build.sh leaves it in c/out/lib. The reading is tests/reference; for the calls
+whose caller checks and makes the signatures it stands here, by docs/SPECIFICATION.md, docs/FILES.md and c/sdjwt.h. Each
+case is one call, named by a command, at one moment. What a caller says of a signature is drawn too, so that a question
+comes, or a verdict over what was said, or none. What is judged under a policy is judged by a handle of it as well.
+Cases are grown, compared, shrunk and counted as those of tests/fuzz.py, but more come in a second: no program is run.
 """
 
 import ctypes
@@ -14,7 +14,7 @@ import os
 import re
 import sys
 import time
-from ctypes import c_char_p, c_size_t, c_uint8, c_uint64
+from ctypes import byref, c_char_p, c_size_t, c_uint8, c_uint64
 from typing import Any, Callable, Dict, List, Optional, Tuple
 
 sys.path[:0] = [os.path.dirname(os.path.abspath(__file__))]
@@ -22,7 +22,7 @@ import fuzz  # noqa: E402
 import grow  # noqa: E402
 from files import PLACES, array, members, pointer, read_policy, read_seed, read_table, short_text, text  # noqa: E402
 from files import one_of, whole  # noqa: E402
-from fuzz import Answer, Case, Cases, content  # noqa: E402
+from fuzz import Answer, Case, Cases, content, reference  # noqa: E402
 from issue import header_text, issue  # noqa: E402
 from outcome import COMPACT_MAX, ISSUE_MAX, Refused, Unreadable, refuse  # noqa: E402
 from texts import HASHES, carried, decode, digest_of, encode, read, write, written  # noqa: E402
@@ -32,8 +32,12 @@ from verify import Judged, choose, holder_kid, judge_binding, judge_claims, proc
 DONE, REFUSED, USAGE, UNWRITTEN, UNREADABLE, ASKS, NOT_ASKED, TO_SIGN = 0, 1, 2, 4, 6, 7, 8, 9
 UNSAID, UNKNOWN, BAD, GOOD = 0, 1, 2, 3
 NOW = 1_800_000_000
-# The parameters of each call: bytes, a moment, and what is said of a signature.
-CALLS = {"judge": "bbbmss", "issue_ask": "bbb", "issue_sign": "bbbb", "present_ask": "bbms", "present_sign": "bbmsb"}
+FORMS = ("compact", "flat", "general")
+# The parameters of each call: bytes, a moment, numbers, and the tokens of a wallet.
+OF_CALLERS = {"judge": "bbbmnn", "issue_ask": "bbb", "issue_sign": "bbbb", "present_ask": "bbmn",
+              "present_sign": "bbmnb"}
+CALLS = {"verify": "bbm", "present": "bbm", "issue": "bb", "show": "b", "split": "b", "convert": "nb", "audit": "bb",
+         "wallet": "bt", **OF_CALLERS}
 TAKEN = ["ES256", "ES256", "EdDSA", "PS256", "\u00e9", "es256", "None", "hs256"]
 NEVER_TAKEN = ["HS256", "HS384", "HS512", "HS", "HSX", "none", ""]
 
@@ -214,7 +218,7 @@ def answer_of(status: int, output: bytes) -> Answer:
 
 
 def reading(call: str, inputs: List[Any]) -> Answer:
-    """What the call answers by the reading."""
+    """What a call whose caller checks and signs answers by the reading."""
     try:
         return answer_of(DONE, READINGS[call](*inputs).encode())
     except Refused as refusal:
@@ -227,6 +231,25 @@ def reading(call: str, inputs: List[Any]) -> Answer:
 
 # Running --------------------------------------------------------------------------------------------------------------
 
+def parameters_of(call: str, inputs: List[Any]) -> List[Any]:
+    """The parameters of a call in C, but for its room."""
+    made: List[Any] = []
+    waiting = list(inputs)
+    for kind in CALLS[call]:
+        if kind == "m":
+            made.append(c_uint64(NOW))
+        elif kind == "n":
+            made.append(c_uint8(waiting.pop(0)))
+        elif kind == "t":
+            tokens = b"".join(waiting)
+            lengths = (c_size_t * len(waiting))(*map(len, waiting))
+            made += [c_char_p(tokens), c_size_t(len(tokens)), lengths, c_size_t(len(waiting))]
+        else:
+            data = waiting.pop(0)
+            made += [c_char_p(data), c_size_t(len(data))]
+    return made
+
+
 class Library:
     """Runs the library and the reading over the same bytes."""
 
@@ -237,43 +260,34 @@ class Library:
     def call(self, name: str, *parameters: Any) -> Answer:
         function, length = getattr(self.library, "sdjwt_" + name), c_size_t()
         function.restype = c_uint8
-        status = function(*parameters, self.room, c_size_t(len(self.room)), ctypes.byref(length))
+        status = function(*parameters, self.room, c_size_t(len(self.room)), byref(length))
         if status == UNWRITTEN:
             self.room = ctypes.create_string_buffer(length.value)
             return self.call(name, *parameters)
         return answer_of(status, self.room.raw[:length.value])
 
-    def by_handle(self, policy: bytes, *others: Any) -> Answer:
-        """What sdjwt_policy_judge answers, or the handle that could not be made."""
+    def by_handle(self, call: str, policy: bytes, others: List[Any]) -> Answer:
+        """What the call answers by a handle of the policy, or why the policy is none."""
         handle = ctypes.c_void_p()
-        made = self.call("policy_new", ctypes.byref(handle), c_char_p(policy), c_size_t(len(policy)))
-        if made.status != DONE:
-            return made
-        answer = self.call("policy_judge", ctypes.byref(handle), *others)
-        self.library.sdjwt_policy_free(ctypes.byref(handle))
+        made = self.call("policy_new", byref(handle), c_char_p(policy), c_size_t(len(policy)))
+        answer = made if made.status != DONE else self.call("policy_" + call, byref(handle), *others)
+        self.library.sdjwt_policy_free(byref(handle))
         return answer
 
     def compare(self, case: Case) -> Tuple[Answer, Answer]:
         """The answer of the library, and that of the reading."""
         call, *words = case["words"]
-        inputs = [content(case["files"][word]) if word in case["files"] else int(word) for word in words]
-        parameters: List[Any] = []
-        waiting = list(inputs)
-        for kind in CALLS[call]:
-            if kind == "m":
-                parameters.append(c_uint64(NOW))
-            elif kind == "s":
-                parameters.append(c_uint8(waiting.pop(0)))
-            else:
-                data = waiting.pop(0)
-                parameters += [c_char_p(data), c_size_t(len(data))]
-        told, answer = self.call(call, *parameters), reading(call, inputs)
-        if call == "judge" and told == answer and told.status != USAGE:
-            told = self.by_handle(inputs[0], *parameters[2:])
+        files = {name: content(part) for name, part in case["files"].items()}
+        inputs = [files[word] if word in files else FORMS.index(word) if word in FORMS else int(word) for word in words]
+        answer = reading(call, inputs) if call in OF_CALLERS else reference.run(case["words"], files.get, NOW)
+        parameters = parameters_of(call, inputs)
+        told = self.call(call, *parameters)
+        if call in ("verify", "judge") and told == answer and told.status != USAGE:
+            told = self.by_handle(call, inputs[0], parameters[2:])
         return told, answer
 
 
-class CallerCases(Cases):
+class LibraryCases(Cases):
     """Grows a case for each call."""
 
     def signed(self, spoils: List[int], bound: float) -> Dict[str, Any]:
@@ -354,25 +368,27 @@ class CallerCases(Cases):
         return {"words": words, "files": files}
 
     def grow(self, command: str, now: int) -> Case:
+        if command not in OF_CALLERS:
+            return super().grow(command, now)
         if command == "judge":
             return self.judged()
         return self.issued(command) if command.startswith("issue") else self.presented(command)
 
 
-class CallerFuzz(fuzz.Fuzz):
-    """A run of cases of callers."""
+class LibraryFuzz(fuzz.Fuzz):
+    """A run of cases of calls."""
 
     def grow(self, command: str, number: int, now: int) -> Case:
-        return CallerCases(self.seed * 1_000_003 + number * 17 + list(CALLS).index(command)).grow(command, now)
+        return LibraryCases(self.seed * 1_000_003 + number * 17 + list(CALLS).index(command)).grow(command, NOW)
 
 
 def main() -> int:
     """A run over the library."""
-    words = fuzz.options("Compares the calls of those who check and sign with a second reading.", CALLS)
+    words = fuzz.options("Compares the calls of the C library with a second reading of the specification.", CALLS)
     words.add_argument("library")
     said = words.parse_args()
     begun = time.time()
-    run = CallerFuzz(Library(said.library), said.seed)
+    run = LibraryFuzz(Library(said.library), said.seed)
     commands = said.commands.split(",")
     run.go(dict.fromkeys(commands, sys.maxsize if said.seconds else said.count), said.seconds)
     return run.tell(commands, time.time() - begun, said.coverage)
