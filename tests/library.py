@@ -65,10 +65,12 @@ class Caller:
 
 
 def is_taken(alg: str, algs: List[str]) -> bool:
+    """Whether a caller may take an algorithm: never one of a shared key, or none."""
     return alg in algs and alg not in ("", "none") and not alg.startswith("HS")
 
 
 def named(asked: str, header: Dict[str, Any]) -> Dict[str, Any]:
+    """Of whom a question asks, with what the header names."""
     return {"ask": asked, **{name: header[name] for name in ("alg", "kid", "typ") if name in header}}
 
 
@@ -305,7 +307,8 @@ class LibraryCases(Cases):
                 pass
         return {"token": recipe}
 
-    def said(self, part: Dict[str, Any]) -> Any:
+    def claims_of(self, part: Dict[str, Any]) -> Any:
+        """What is in a token whose signature is called good, to name places of it; or nothing."""
         try:
             token = read_token(content(part))
             token.binding = None
@@ -320,6 +323,7 @@ class LibraryCases(Cases):
         return grower.one([TAKEN + NEVER_TAKEN] * 20 + [TAKEN[:1], NEVER_TAKEN, []])
 
     def word(self, good: float) -> int:
+        """What is said of a signature, or a number that says nothing."""
         return GOOD if self.grower.maybe(good) else self.grower.one([UNSAID, UNSAID, UNSAID, UNKNOWN, BAD, 4, 255])
 
     def signature(self) -> Dict[str, Any]:
@@ -352,7 +356,7 @@ class LibraryCases(Cases):
     def presented(self, call: str) -> Case:
         grower = self.grower
         token = self.signed([0, 0, 0, 1], 0.05)
-        order = {**self.present_order(self.said(token)), "algs": self.algs()}
+        order = {**self.present_order(self.claims_of(token)), "algs": self.algs()}
         if grower.maybe(0.98):
             del order["keys"]
         if "binding" in order:
