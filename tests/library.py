@@ -5,8 +5,10 @@
 LIBRARY is a built libsdjwt.so, as c/build.sh leaves it in c/out/lib. The reading is tests/reference; for the calls
 whose caller checks and makes the signatures it stands here, by docs/SPECIFICATION.md, docs/FILES.md and c/sdjwt.h. Each
 case is one call, named by a command, at one moment. What a caller says of a signature is drawn too, so that a question
-comes, or a verdict over what was said, or none. What is judged under a policy is judged by a handle of it as well.
-Cases are grown, compared, shrunk and counted as those of tests/fuzz.py, but more come in a second: no program is run.
+comes, or a verdict over what was said, or none. What is judged under a policy is judged by a handle of it as well. The
+command presented_to_caller is the law of this name: a token that a caller signs is presented, which another one signs,
+and judged by a third, who is told the payload of the order without the places not chosen. Cases are grown, compared,
+shrunk and counted as those of tests/fuzz.py, but more come in a second: no program is run.
 """
 
 import ctypes
@@ -23,9 +25,10 @@ import grow  # noqa: E402
 from files import PLACES, array, members, pointer, read_policy, read_seed, read_table, short_text, text  # noqa: E402
 from files import one_of, whole  # noqa: E402
 from fuzz import Answer, Case, Cases, content, reference  # noqa: E402
-from issue import header_text, issue  # noqa: E402
+from issue import closing_order, header_text, issue  # noqa: E402
 from outcome import COMPACT_MAX, ISSUE_MAX, Refused, Unreadable, refuse  # noqa: E402
-from texts import HASHES, carried, decode, digest_of, encode, read, write, written  # noqa: E402
+from properties import AUD, NONCE, grown_order, leads_to, without  # noqa: E402
+from texts import HASHES, at, carried, decode, digest_of, encode, is_whole, read, write, written  # noqa: E402
 from tokens import Token, read_content, read_header, read_token  # noqa: E402
 from verify import Judged, choose, holder_kid, judge_binding, judge_claims, process  # noqa: E402
 
@@ -38,6 +41,8 @@ OF_CALLERS = {"judge": "bbbmnn", "issue_ask": "bbb", "issue_sign": "bbbb", "pres
               "present_sign": "bbmnb"}
 CALLS = {"verify": "bbm", "present": "bbm", "issue": "bb", "show": "b", "split": "b", "convert": "nb", "audit": "bb",
          "wallet": "bt", **OF_CALLERS}
+LAW = "presented_to_caller"
+COMMANDS = (*CALLS, LAW)
 TAKEN = ["ES256", "ES256", "EdDSA", "PS256", "\u00e9", "es256", "None", "hs256"]
 NEVER_TAKEN = ["HS256", "HS384", "HS512", "HS", "HSX", "none", ""]
 
@@ -134,14 +139,19 @@ def is_algorithm(alg: bytes) -> bool:
         return False
 
 
+def read_order_apart(data: bytes) -> Dict[str, Any]:
+    """What an issuer is asked for who signs elsewhere."""
+    decoys = array(members(at=pointer, count=whole(0, 32_768)))
+    return read_table(data, lambda _: {
+        "payload": (lambda any_value: any_value,), "hide": PLACES, "decoys": (decoys, []), "kid": (text, None),
+        "typ": (text, None), "sd_alg": (one_of(HASHES), "sha-256")})
+
+
 def laid_out(order_file: bytes, alg: bytes, seed_file: bytes) -> Token:
     """The token of an order without keys, whose signature is not there yet."""
     if not is_algorithm(alg):
         raise Ended(USAGE, "")
-    decoys = array(members(at=pointer, count=whole(0, 32_768)))
-    order = read_table(order_file, lambda _: {
-        "payload": (lambda any_value: any_value,), "hide": PLACES, "decoys": (decoys, []), "kid": (text, None),
-        "typ": (text, None), "sd_alg": (one_of(HASHES), "sha-256")})
+    order = read_order_apart(order_file)
     token = issue({**order, "key": b"", "alg": "HS256"}, read_seed(seed_file))
     return Token(header_text({**order, "alg": alg.decode()}), token.payload, "", token.disclosures)
 
@@ -171,10 +181,15 @@ def read_binding(value: Any) -> Dict[str, Any]:
     return said
 
 
+def read_asked(data: bytes) -> Dict[str, Any]:
+    """What a holder is asked to show who signs elsewhere."""
+    return read_table(data, lambda _: {
+        "algs": (array(text),), "want": PLACES, "never": PLACES, "binding": (read_binding, None)})
+
+
 def unsigned(order_file: bytes, token_file: bytes, issuer: int) -> Tuple[Token, Optional[str]]:
     """What is shown, and the text of the key binding token that is asked for."""
-    order = read_table(order_file, lambda _: {
-        "algs": (array(text),), "want": PLACES, "never": PLACES, "binding": (read_binding, None)})
+    order = read_asked(order_file)
     token = read_token(token_file)
     refuse(71, token.binding is not None)
     held = judge_issued(token, order["algs"], Caller(issuer))
@@ -231,6 +246,21 @@ def reading(call: str, inputs: List[Any]) -> Answer:
         return answer_of(end.args[0], end.args[1].encode())
 
 
+def claims_due(order_file: bytes, asked_file: bytes) -> Any:
+    """The payload of an order without the hidden places that lead to no wanted one; nothing where they don't suit."""
+    try:
+        order, asked = read_order_apart(order_file), read_asked(asked_file)
+    except Unreadable:
+        return None
+    payload = order["payload"]
+    hidden = list(closing_order(payload, set(order["hide"])))
+    chosen = [place for place in hidden if any(leads_to(place, path) for path in asked["want"])]
+    suits = (all(at(payload, path)[0] for path in asked["want"])
+             and not any(leads_to(path, place) for place in chosen for path in asked["never"])
+             and all(is_whole(payload.get(name, 0)) for name in ("exp", "nbf")))
+    return without(payload, set(hidden) - set(chosen)) if suits else None
+
+
 # Running --------------------------------------------------------------------------------------------------------------
 
 def parameters_of(call: str, inputs: List[Any]) -> List[Any]:
@@ -276,9 +306,33 @@ class Library:
         self.library.sdjwt_policy_free(byref(handle))
         return answer
 
+    def made(self, call: str, *inputs: Any) -> Answer:
+        """What a call answers over these inputs."""
+        return self.call(call, *parameters_of(call, list(inputs)))
+
+    def presented_to_caller(self, files: Dict[str, bytes]) -> Tuple[Answer, Answer]:
+        """What the last of three callers is told, each of whom calls all signatures good, and what is due."""
+        order, asked, policy, alg = files["order.json"], files["asked.json"], files["policy.json"], files["alg.txt"]
+        issued = self.made("issue_sign", order, alg, files["seed.txt"], b"of the issuer")
+        if issued.status != DONE:
+            return issued, issued
+        due = claims_due(order, asked)
+        if due is None:
+            return (Answer(DONE, b"", "what is asked for does not suit the order"),) * 2
+        question = self.made("present_ask", asked, issued.output, UNSAID)
+        shown = self.made("present_sign", asked, issued.output, GOOD, b"of the holder")
+        asks = [self.made("judge", policy, b"", shown.output, GOOD if holder else UNSAID, UNSAID)
+                for holder in range(2 if b'"binding"' in policy else 1)]
+        if [each.status for each in (question, shown, *asks)] != [ASKS, DONE, *[ASKS] * len(asks)]:
+            return question if question.status != ASKS else shown, Answer(DONE, b"", "each step as it is due")
+        told = self.made("judge", policy, b"", shown.output, GOOD, GOOD if len(asks) == 2 else UNSAID)
+        return told, answer_of(DONE, f"{write(due)}\n".encode())
+
     def compare(self, case: Case) -> Tuple[Answer, Answer]:
         """The answer of the library, and that of the reading."""
         call, *words = case["words"]
+        if call == LAW:
+            return self.presented_to_caller({name: content(part) for name, part in case["files"].items()})
         files = {name: content(part) for name, part in case["files"].items()}
         inputs = [files[word] if word in files else FORMS.index(word) if word in FORMS else int(word) for word in words]
         answer = reading(call, inputs) if call in OF_CALLERS else reference.run(case["words"], files.get, NOW)
@@ -371,7 +425,27 @@ class LibraryCases(Cases):
             words.append("signature")
         return {"words": words, "files": files}
 
+    def of_law(self) -> Case:
+        """An order, what is asked of its token, and a policy that suits them."""
+        bound = self.grower.maybe(0.5)
+        order = grown_order(self, NOW, bound)
+        asked: Dict[str, Any] = {"algs": TAKEN, "want": self.paths(order["payload"])}
+        policy: Dict[str, Any] = {"keys": {"keys": []}, "algs": TAKEN}
+        for name in ("key", "alg"):
+            order.pop(name, None)
+        if self.grower.maybe(0.3):
+            asked["never"] = self.paths(order["payload"])
+        if bound:
+            asked["binding"] = {"aud": AUD, "nonce": NONCE, "alg": self.grower.one(TAKEN)}
+            policy["binding"] = {"aud": AUD, "nonce": NONCE, "keys": {"keys": []}, "max_age": 0}
+        texts = {"order.json": write(order), "asked.json": write(asked), "policy.json": write(policy),
+                 "alg.txt": self.grower.one(TAKEN)}
+        return {"words": [LAW], "files": {"seed.txt": self.seed_text(), **{
+            name: {"text": each} for name, each in texts.items()}}}
+
     def grow(self, command: str, now: int) -> Case:
+        if command == LAW:
+            return self.of_law()
         if command not in OF_CALLERS:
             return super().grow(command, now)
         if command == "judge":
@@ -383,12 +457,12 @@ class LibraryFuzz(fuzz.Fuzz):
     """A run of cases of calls."""
 
     def grow(self, command: str, number: int, now: int) -> Case:
-        return LibraryCases(self.seed * 1_000_003 + number * 17 + list(CALLS).index(command)).grow(command, NOW)
+        return LibraryCases(self.seed * 1_000_003 + number * 17 + COMMANDS.index(command)).grow(command, NOW)
 
 
 def main() -> int:
     """A run over the library."""
-    words = fuzz.options("Compares the calls of the C library with a second reading of the specification.", CALLS)
+    words = fuzz.options("Compares the calls of the C library with a second reading of the specification.", COMMANDS)
     words.add_argument("library")
     said = words.parse_args()
     begun = time.time()
