@@ -109,10 +109,7 @@ class Cases:
     def token(self, now: int, spoils: List[int], bound: float = 0.4) -> Dict[str, Any]:
         recipe = self.grower.token(now, bound)
         for _ in range(self.grower.one(spoils)):
-            try:
-                self.grower.spoil(recipe, now)
-            except (RecursionError, IndexError):
-                pass
+            self.grower.spoil(recipe, now)
         return {"token": recipe}
 
     def spoilt_text(self, tree: Any, share: float) -> Dict[str, Any]:
@@ -291,7 +288,7 @@ class Cases:
                 continue
         recipe = grow.recipe_of(token, order)
         for _ in range(grower.one([0, 1, 1, 1, 2])):
-            grower.one(grow.AUDIT_SPOILERS)(grower, recipe, 0)
+            grower.spoil(recipe, 0, grow.AUDIT_SPOILERS)
         return order, {"token": recipe}
 
     def grow(self, command: str, now: int) -> Case:

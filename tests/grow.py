@@ -256,11 +256,15 @@ class Grower:
         recipe["header"] = self.write(header, blanks, twice)
         return recipe
 
-    def spoil(self, recipe: Recipe, now: int) -> None:
-        """One change after which the token may fail a condition."""
-        groups = ["header", "claims", "processing", "processing", "processing", "texts", "layout"]
-        group = self.one(groups + ["binding"] * 5 if recipe["binding"] else groups)
-        self.one(SPOILERS[group])(self, recipe, now)
+    def spoil(self, recipe: Recipe, now: int, spoilers: Optional[List[Any]] = None) -> None:
+        """One change after which the token may fail a condition; none where earlier ones left nothing to change."""
+        if spoilers is None:
+            groups = ["header", "claims", "processing", "processing", "processing", "texts", "layout"]
+            spoilers = SPOILERS[self.one(groups + ["binding"] * 5 if recipe["binding"] else groups)]
+        try:
+            self.one(spoilers)(self, recipe, now)
+        except (RecursionError, LookupError, AttributeError, TypeError, ValueError):
+            pass
 
     def change(self, recipe: Recipe, part: str, change: Callable[[Any], Any]) -> None:
         """A change of the tree that a part of a recipe says."""
@@ -833,13 +837,14 @@ def _audit_value(grower: Grower, recipe: Recipe, _now: int) -> None:
 
 def _audit_swap(grower: Grower, recipe: Recipe, _now: int) -> None:
     """The references to two disclosures change places, or the disclosures are sent in another order."""
-    if len(recipe["disclosures"]) > 1:
+    send = recipe["send"]
+    if len(send) > 1 and grower.maybe(0.5):
+        one, other = grower.rng.sample(range(len(send)), 2)
+        send[one], send[other] = send[other], send[one]
+    elif len(recipe["disclosures"]) > 1:
         one, other = grower.rng.sample(range(len(recipe["disclosures"])), 2)
-        if grower.maybe(0.5):
-            recipe["send"][one], recipe["send"][other] = recipe["send"][other], recipe["send"][one]
-        else:
-            swap = {f"<{one}>": f"<{other}>", f"<{other}>": f"<{one}>"}
-            recipe["payload"] = re.sub("<[0-9]+>", lambda found: swap.get(found[0], found[0]), recipe["payload"])
+        swap = {f"<{one}>": f"<{other}>", f"<{other}>": f"<{one}>"}
+        recipe["payload"] = re.sub("<[0-9]+>", lambda found: swap.get(found[0], found[0]), recipe["payload"])
 
 
 AUDIT_SPOILERS: List[Spoiler] = [

@@ -355,10 +355,7 @@ class LibraryCases(Cases):
                 alg = grower.one(TAKEN if grower.maybe(0.95) else NEVER_TAKEN)
                 part["header"] = re.sub("HS(256|384|512)", alg, part["header"])
         for _ in range(grower.one(spoils)):
-            try:
-                grower.spoil(recipe, NOW)
-            except (RecursionError, IndexError):
-                pass
+            grower.spoil(recipe, NOW)
         return {"token": recipe}
 
     def claims_of(self, part: Dict[str, Any]) -> Any:
