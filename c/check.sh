@@ -1,8 +1,8 @@
 #!/bin/sh
 # Tests the C library: builds it, and runs c/tests/calls.c over the vectors of vectors/, on one thread and on eight, under
 # AddressSanitizer with UndefinedBehaviorSanitizer, and under valgrind; then with each request for memory refused in turn;
-# then the calls whose caller checks and makes the signatures, beside a second reading; then the programs of c/examples
-# that check signatures by OpenSSL, over the presentation of RFC 9901, and make them.
+# then all calls beside a second reading, at random; then the programs of c/examples that check signatures by OpenSSL,
+# over the presentation of RFC 9901, and make them.
 #
 #   sh c/check.sh               a tool that is missing is told and skipped
 #   sh c/check.sh --install     what is missing is installed from Debian's packages first
@@ -64,7 +64,7 @@ fi
 echo 'With each request for memory refused in turn:'
 "$made/memory" "$here/../examples/walk"
 
-echo 'Where the caller checks and makes the signatures, beside a second reading:'
+echo 'All calls beside a second reading, at random:'
 python3 "$here/../tests/library.py" "$lib/libsdjwt.so" --count 200
 
 # The programs over OpenSSL that docs/C.md names: one verifies, and the other issues and presents.

@@ -673,11 +673,17 @@ class Fuzz:
 
 def options(description: str, commands: Iterable[str]) -> argparse.ArgumentParser:
     """What a run of cases takes, but for what it runs."""
+    def some_of(text: str) -> List[str]:
+        others = set(text.split(",")) - set(commands)
+        if others:
+            raise argparse.ArgumentTypeError(f"there is no command {min(others)!r}")
+        return text.split(",")
+
     words = argparse.ArgumentParser(description=description)
     words.add_argument("--seed", type=int, default=1)
     words.add_argument("--count", type=int, default=1000, help="how many cases of each command; of feed, lines")
     words.add_argument("--seconds", type=float, default=0.0, help="run cases for so long; the commands share the time")
-    words.add_argument("--commands", default=",".join(commands))
+    words.add_argument("--commands", type=some_of, default=list(commands))
     words.add_argument("--coverage", action="store_true")
     return words
 
@@ -691,7 +697,7 @@ def main() -> int:
     begun = time.time()
     with tempfile.TemporaryDirectory(dir="/dev/shm" if os.path.isdir("/dev/shm") else None) as folder:
         fuzz = Fuzz(Runner(said.program, said.tools, folder), said.seed)
-        most = dict.fromkeys(said.commands.split(","), sys.maxsize if said.seconds else said.count)
+        most = dict.fromkeys(said.commands, sys.maxsize if said.seconds else said.count)
         if not said.seconds and "gen" in most:
             most["gen"] = min(said.count, 40)
         if "limits" in most:

@@ -463,10 +463,12 @@ def main() -> int:
     words.add_argument("library")
     said = words.parse_args()
     begun = time.time()
-    run = LibraryFuzz(Library(said.library), said.seed)
-    commands = said.commands.split(",")
-    run.go(dict.fromkeys(commands, sys.maxsize if said.seconds else said.count), said.seconds)
-    return run.tell(commands, time.time() - begun, said.coverage)
+    try:
+        run = LibraryFuzz(Library(said.library), said.seed)
+    except OSError as fault:
+        words.error(str(fault))
+    run.go(dict.fromkeys(said.commands, sys.maxsize if said.seconds else said.count), said.seconds)
+    return run.tell(said.commands, time.time() - begun, said.coverage)
 
 
 if __name__ == "__main__":

@@ -30,8 +30,6 @@ CALLS = ("verify", "present", "issue", "show", "split", "convert", "audit", "wal
 OF_CALLERS = {"judge": "judge", "issue_ask": "ask", "issue_sign": "sign", "present_ask": "step", "present_sign": "sent"}
 ALL_CALLS = (*CALLS, *OF_CALLERS.values(), "policy")
 GROWN = 200
-FORMS = ("compact", "flat", "general")
-SOME_MOMENT = 1_800_000_000
 LONGEST = 16_384
 
 
@@ -68,8 +66,8 @@ def inputs(vector):
     for run in vector["runs"]:
         call, *words = run["words"] or [""]
         parts = [files.get(word) for word in words]
-        if call == "convert" and words[0] in FORMS:
-            parts = [*parts[1:], b"x" * FORMS.index(words[0])]
+        if call == "convert" and words[0] in library.FORMS:
+            parts = [*parts[1:], b"x" * library.FORMS.index(words[0])]
         if call in CALLS and parts and None not in parts:
             yield call, parts
         if call == "issue" and len(parts) == 2 and None not in parts:
@@ -80,7 +78,7 @@ def inputs(vector):
             for word in (b"", b"no", b"yes"):
                 yield "step", [*apart(*parts), word]
             yield "sent", [*apart(*parts), b"a signature"]
-        answer = reading.run(run["words"], files.get, run.get("moment", SOME_MOMENT), files.get("source", b""))
+        answer = reading.run(run["words"], files.get, run.get("moment", library.NOW), files.get("source", b""))
         if "kept_as" in run:
             files[run["kept_as"]] = answer.output
 
@@ -107,7 +105,8 @@ def of_growers():
         for command in CALLS:
             case = fuzz.Cases(number).grow(command, library.NOW)
             parts = [fuzz.content(part) for part in case["files"].values()]
-            yield from joined(command, parts + [b"x" * FORMS.index(word) for word in case["words"] if word in FORMS])
+            forms = [b"x" * library.FORMS.index(word) for word in case["words"] if word in library.FORMS]
+            yield from joined(command, parts + forms)
         for command, call in OF_CALLERS.items():
             case = library.LibraryCases(number).grow(command, library.NOW)
             parts = [fuzz.content(part) for part in case["files"].values()]

@@ -35,6 +35,13 @@ static void check(int holds, const char *what) {
     }
 }
 
+/* What is answered by a handle, and without one. */
+static void check_same(sdjwt_status status, const uint8_t *out, size_t len, sdjwt_status other_status, const uint8_t *other,
+                       size_t other_len) {
+    check(status == other_status && len == other_len, "a handle has another verdict");
+    check(status == SDJWT_UNWRITTEN || memcmp(out, other, len) == 0, "a handle has another answer");
+}
+
 /* A part of the input, or one of no bytes where there is none. */
 static text part(const input *given, size_t number) {
     static uint8_t nothing[1];
@@ -59,8 +66,7 @@ static sdjwt_status call_judge(const input *given, uint8_t *out, size_t room, si
     if (sdjwt_policy_new(&handle, policy.bytes, policy.len, other, room, &other_len) == SDJWT_DONE) {
         sdjwt_status other_status = sdjwt_policy_judge(&handle, algs.bytes, algs.len, token.bytes, token.len, NOW, issuer,
                                                        holder, other, room, &other_len);
-        check(status == other_status && *len == other_len, "a handle has another verdict");
-        check(status == SDJWT_UNWRITTEN || memcmp(out, other, *len) == 0, "a handle has another answer");
+        check_same(status, out, *len, other_status, other, other_len);
     }
     sdjwt_policy_free(&handle);
     free(other);
@@ -149,8 +155,7 @@ static sdjwt_status call_policy(const input *given, uint8_t *out, size_t room, s
         size_t other_len = 0;
         uint8_t *other = malloc(room + 1);
         sdjwt_status other_status = call_verify(given, other, room, &other_len);
-        check(status == other_status && *len == other_len, "a handle has another verdict");
-        check(status == SDJWT_UNWRITTEN || memcmp(out, other, *len) == 0, "a handle has another answer");
+        check_same(status, out, *len, other_status, other, other_len);
         free(other);
     }
     sdjwt_policy_free(&handle);

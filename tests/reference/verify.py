@@ -120,7 +120,7 @@ def verify(policy: Said, token: Token, now: int) -> Members:
 
 def judge_claims(policy: Said, claims: Members, now: int) -> None:
     """Conditions 22 to 26."""
-    refuse(22, policy["iss"] is not None and not any(claims.get("iss") == name for name in policy["iss"]))
+    refuse(22, policy["iss"] is not None and claims.get("iss") not in policy["iss"])
     refuse_first(23, (name not in claims for name in policy["require"]))
     _judge_times(claims, now, policy["skew"], 24, 25, 26)
 
