@@ -15,7 +15,9 @@ use Rattle.issuer_core.specs.Decoys.{decoys_of}
 use Rattle.issuer_core.specs.Digests.{Maker, hidden_of, made_texts}
 use Rattle.issuer_core.specs.Laid.{lay, laid_given, with_alg, IsLaid}
 use Rattle.issuer_core.specs.declared.decoys.Decoys.{Decoys}
+use Rattle.issuer_core.specs.declared.laying.Hiding.{Hiding}
 use Rattle.issuer_core.specs.declared.laying.LaidNode.{LaidNode}
+use Rattle.issuer_core.specs.declared.laying.Layer.{Layer}
 
 -- ---- texts by their numbers
 
@@ -77,6 +79,19 @@ abbrev pub ForAllDigests : Decoys → HashAlg → List Text → ((Path → List 
 ForAllDigests d hash texts Holds =
     (dec : Path → List Text) → DecoysTell d dec → (more : List Text)
     → Holds dec (digest_at hash (texts ++ more))
+
+-- ---- the disclosures so far
+
+abbrev pub HasDigests : HashAlg → Layer → Type 0
+HasDigests hash layer = layer.digests ≡ map (digest_of hash) layer.texts
+
+-- the texts become more by those of these disclosures, which are told by the digests
+abbrev pub Discloses : Hiding → Decoys → Layer → Layer
+    → ((Path → List Text) → (ℕ → Text) → List Given) → Type 0
+Discloses hiding d old new given =
+    ForAllDigests d hiding.hash new.texts
+    (λ dec dg. new.texts
+    ≡ old.texts ++ made_texts (salted hiding.salts.now) (length old.texts) (given dec dg))
 
 -- ---- a part
 

@@ -15,7 +15,7 @@ ghost use Rattle.issuer_core.specs.Seed.{maker_of};
 ghost use Rattle.issuer_core.specs.Laid as spec;
 ghost use Rattle.issuer_core.specs.Laid.{sorted, with_sd, digest_elements, hidden_digests, laid_given, laid_elements, laid_members, own_given, lay_elements, lay_members};
 ghost use Rattle.issuer_core.specs.Digests.{made_texts};
-ghost use Rattle.issuer_core.specs.Laying.{salted, elements_joined, ArePlaced, ForAllDigests, IsLaidNode, IsLaidWith, IsLaidFor, members_with, hidden_with};
+ghost use Rattle.issuer_core.specs.Laying.{salted, elements_joined, ArePlaced, ForAllDigests, HasDigests, Discloses, IsLaidNode, IsLaidWith, IsLaidFor, members_with, hidden_with};
 ghost use Rattle.issuer_core.specs.Closing.{one, HasNumber, ClosesFrom, ElementsClose, MembersClose};
 
 use crate::decoys::{Decoys, sort_decoys};
@@ -81,7 +81,7 @@ impl Layer {
     ) -> Result<TextBox, NoMemory>
         requires salts { length self.old.texts < length hiding.salts.now }
         requires depth { depth (tree_of value) ≤ 126 }
-        requires digests { self.old.digests ≡ map (digest_of hiding.hash) self.old.texts }
+        requires digests { HasDigests hiding.hash self.old }
         ensures text { OnOk result
             (self.new.texts
             ≡ self.old.texts
@@ -92,8 +92,7 @@ impl Layer {
             ≡ digest_of hiding.entry.hash
             (salted hiding.entry.salts.now (length self.old.texts)
             (option_map (λ n. n.now) name.entry) (tree_of value))) }
-        ensures digests { OnOk result
-            (self.new.digests ≡ map (digest_of hiding.entry.hash) self.new.texts) }
+        ensures digests { OnOk result (HasDigests hiding.entry.hash self.new) }
     {
         let Some(salt) = hiding.salts.at(self.texts.len()) else {
             unreachable!();
@@ -199,20 +198,16 @@ fn lay(
     requires closes { ClosesFrom (length layer.old.texts) (marked_of tree) }
     requires salts { length layer.old.texts + weight one (marked_of tree)
         ≤ length hiding.salts.now }
-    requires digests { layer.old.digests ≡ map (digest_of hiding.hash) layer.old.texts }
+    requires digests { HasDigests hiding.hash layer.old }
     ensures laid { IfOk result
         (λ laid. ForAllDigests decoys.entry hiding.entry.hash layer.new.texts
         (λ dec dg. tree_of laid ≡ spec.lay dec dg (marked_of tree))) }
     ensures texts { OnOk result
-        (ForAllDigests decoys.entry hiding.entry.hash layer.new.texts
-        (λ dec dg. layer.new.texts
-        ≡ layer.old.texts
-        ++ made_texts (salted hiding.entry.salts.now) (length layer.old.texts)
-        (laid_given dec dg (marked_of tree)))) }
+        (Discloses hiding.entry decoys.entry layer.old layer.new
+        (λ dec dg. laid_given dec dg (marked_of tree))) }
     ensures count { OnOk result
         (length layer.new.texts ≡ length layer.old.texts + weight one (marked_of tree)) }
-    ensures digests { OnOk result
-        (layer.new.digests ≡ map (digest_of hiding.entry.hash) layer.new.texts) }
+    ensures digests { OnOk result (HasDigests hiding.entry.hash layer.new) }
 {
     match tree {
         Marked::Null => Ok(Tree::Null),
@@ -236,20 +231,16 @@ fn lay_list(
     requires decoys { ArePlaced decoys }
     requires closes { ElementsClose (length layer.old.texts) list }
     requires salts { length layer.old.texts + elements_weight one list ≤ length hiding.salts.now }
-    requires digests { layer.old.digests ≡ map (digest_of hiding.hash) layer.old.texts }
+    requires digests { HasDigests hiding.hash layer.old }
     ensures laid { IfOk result
         (λ laid. ForAllDigests decoys.entry hiding.entry.hash layer.new.texts
         (λ dec dg. laid ≡ lay_elements dec dg 0 list)) }
     ensures texts { OnOk result
-        (ForAllDigests decoys.entry hiding.entry.hash layer.new.texts
-        (λ dec dg. layer.new.texts
-        ≡ layer.old.texts
-        ++ made_texts (salted hiding.entry.salts.now) (length layer.old.texts)
-        (laid_elements dec dg 0 list))) }
+        (Discloses hiding.entry decoys.entry layer.old layer.new
+        (λ dec dg. laid_elements dec dg 0 list)) }
     ensures count { OnOk result
         (length layer.new.texts ≡ length layer.old.texts + elements_weight one list) }
-    ensures digests { OnOk result
-        (layer.new.digests ≡ map (digest_of hiding.entry.hash) layer.new.texts) }
+    ensures digests { OnOk result (HasDigests hiding.entry.hash layer.new) }
 {
     let own = decoys.here();
     let count = list.len();
@@ -278,22 +269,18 @@ fn lay_map(
     requires decoys { ArePlaced decoys }
     requires closes { MembersClose (length layer.old.texts) members }
     requires salts { length layer.old.texts + members_weight one members ≤ length hiding.salts.now }
-    requires digests { layer.old.digests ≡ map (digest_of hiding.hash) layer.old.texts }
+    requires digests { HasDigests hiding.hash layer.old }
     ensures laid { IfOk result
         (λ laid. ForAllDigests decoys.entry hiding.entry.hash layer.new.texts
         (λ dec dg. laid
         ≡ with_sd (sorted (hidden_digests dg members ++ dec []))
         (lay_members dec dg members))) }
     ensures texts { OnOk result
-        (ForAllDigests decoys.entry hiding.entry.hash layer.new.texts
-        (λ dec dg. layer.new.texts
-        ≡ layer.old.texts
-        ++ made_texts (salted hiding.entry.salts.now) (length layer.old.texts)
-        (laid_members dec dg members))) }
+        (Discloses hiding.entry decoys.entry layer.old layer.new
+        (λ dec dg. laid_members dec dg members)) }
     ensures count { OnOk result
         (length layer.new.texts ≡ length layer.old.texts + members_weight one members) }
-    ensures digests { OnOk result
-        (layer.new.digests ≡ map (digest_of hiding.entry.hash) layer.new.texts) }
+    ensures digests { OnOk result (HasDigests hiding.entry.hash layer.new) }
 {
     let mut laid = TreeMap::new(alloc);
     let mut digests = Vec::new(alloc);
@@ -324,23 +311,19 @@ fn lay_node(
     requires numbered { HasNumber mark (length layer.old.texts + weight one (marked_of tree)) }
     requires salts { length layer.old.texts + (mark_weight one mark + weight one (marked_of tree))
         ≤ length hiding.salts.now }
-    requires digests { layer.old.digests ≡ map (digest_of hiding.hash) layer.old.texts }
+    requires digests { HasDigests hiding.hash layer.old }
     ensures part { IfOk result
         (λ part. ForAllDigests decoys.entry hiding.entry.hash layer.new.texts
         (λ dec dg. IsLaidNode dec dg mark (marked_of tree) part)) }
     ensures texts { OnOk result
-        (ForAllDigests decoys.entry hiding.entry.hash layer.new.texts
-        (λ dec dg. layer.new.texts
-        ≡ layer.old.texts
-        ++ made_texts (salted hiding.entry.salts.now) (length layer.old.texts)
-        (laid_given dec dg (marked_of tree)
+        (Discloses hiding.entry decoys.entry layer.old layer.new
+        (λ dec dg. laid_given dec dg (marked_of tree)
         ++ own_given dg (option_map (λ n. n.now) name.entry) mark
-        (spec.lay dec dg (marked_of tree))))) }
+        (spec.lay dec dg (marked_of tree)))) }
     ensures count { OnOk result
         (length layer.new.texts
         ≡ length layer.old.texts + (mark_weight one mark + weight one (marked_of tree))) }
-    ensures digests { OnOk result
-        (layer.new.digests ≡ map (digest_of hiding.entry.hash) layer.new.texts) }
+    ensures digests { OnOk result (HasDigests hiding.entry.hash layer.new) }
 {
     let inside = lay(alloc, tree, decoys, hiding, layer)?;
     match mark {
