@@ -137,11 +137,9 @@ module _ (text : List ℕ) (demands : Demands) (now : ℕ) (fault : Fault) (l : 
     unsigned_next none (t, asked) = one_read text token t (λ x. IsNotBase64 x.parts.signed.signature → ⊥) is asked.is_token asked.signature none
 
     -- the header is read where the signature is judged
-    pub header_read : fault.number ≡ 10 → IsHeaderUnreadable token.parts.signed.protected token.outer → ⊥
-    header_read at unread = none_at text demands now fault l Condition.HeaderUnreadable (omega (arith, at)) Nowhere (of_token token is (refl, unread))
-
-    pub header_uncritical : fault.number ≡ 10 → IsHeaderCritical token.parts.signed.protected token.outer → ⊥
-    header_uncritical at critical = none_at text demands now fault l Condition.HeaderCritical (omega (arith, at)) Nowhere (of_token token is (refl, critical))
+    pub header_read : fault.number ≡ 10 → IsHeaderUnreadable token.parts.signed.protected token.outer ⊎ IsHeaderCritical token.parts.signed.protected token.outer → ⊥
+    header_read at (inl unread) = none_at text demands now fault l Condition.HeaderUnreadable (omega (arith, at)) Nowhere (of_token token is (refl, unread))
+    header_read at (inr critical) = none_at text demands now fault l Condition.HeaderCritical (omega (arith, at)) Nowhere (of_token token is (refl, critical))
 
     -- a condition on the token itself fails of the token that is read
     pub token_fails : (c : Condition) (place : Place) → 4 < number_of c → number_of c < 22 → FailsFor text demands now c place → TokenFails token demands.rules c place

@@ -1,27 +1,24 @@
 -- Where a caller checks the signatures: from what is read of a token to what is answered.
-use Rattle.std.proofs.Common.{◌≡◌, ℕ, ◌<◌, List, subst, arith}
-use Rattle.claim_tree.specs.Tree.{Text, Tree}
+use Rattle.std.proofs.Common.{◌≡◌, ℕ, ◌<◌, List, Ok, Err, sym, subst, arith}
+use Rattle.claim_tree.specs.View.{tree_of}
+use Rattle.claim_tree.specs.declared.tree.Tree as owned
 use Rattle.refusals.proofs.Numbers.{fault_is}
 use Rattle.refusals.specs.Faults.{failed_of}
 use Rattle.refusals.specs.Lowest.{IsLowest}
 use Rattle.refusals.specs.declared.fault.Fault.{Fault}
 use Rattle.disclosure.specs.declared.digests.HashAlg.{HashAlg}
 use Rattle.json_form.specs.Token as file
-use Rattle.json_form.specs.Token.{IsToken}
 use Rattle.json_form.specs.declared.token.Token.{Token}
 use Rattle.marked_tree.specs.Marked.{Marked, strip}
-use Rattle.verifier_core.specs.Asking.{caller_demands, WasAsked, IsAskedNext, IsNeededAt, IsAcceptedForAs, IsOpenedAs}
-use Rattle.verifier_core.specs.Check.{OnFault, IsUncounted, IsContent, IsRead, IsOpened, IsSigned, OfToken}
-use Rattle.verifier_core.specs.Content.{Content}
-use Rattle.verifier_core.specs.Verdict.{Demands, FailsFor, TokenFails, IsBindingMissing, HasHash, IsAcceptedFor}
-use Rattle.verifier_core.specs.Verdicts.{IsCheckedAs}
-use Rattle.verifier_core.specs.declared.asking.Answers.{Answers}
+use Rattle.verifier_core.specs.Asking.{IsNeededAt, IsAcceptedForAs, IsOpenedAs}
+use Rattle.verifier_core.specs.AskingSteps.{demands_in, fails_in, WasAskedIn, IsAskedNextIn, IsTried}
+use Rattle.verifier_core.specs.Check.{OnFault, IsOpened}
+use Rattle.verifier_core.specs.Verdict.{Demands, FailsFor, TokenFails, IsAcceptedFor}
+use Rattle.verifier_core.specs.declared.asking.Case.{Case}
 use Rattle.verifier_core.specs.declared.token_checking.VerifyError.{VerifyError}
-use Rattle.verifier_core.specs.declared.policy.Policy.{Policy}
 use Rattle.verifier_core.proofs.Asked.{file_numbers, signed_text, not_unsaid, said_good, needed_below, done_below}
-use Rattle.verifier_core.proofs.Contents.{open_refused, is_opened, read_uncounted}
 use Rattle.verifier_core.proofs.TokenConditions.{token_numbers}
-use Rattle.verifier_core.proofs.Verdicts.{file_lowest}
+use Rattle.verifier_core.proofs.Verdicts.{file_lowest, token_lowest}
 
 -- the fault of an error
 pub at_fault : (error : VerifyError) (fault : Fault) (P : Fault → Type 0) → error ≡ VerifyError.Fault fault → OnFault error P → P fault
@@ -36,51 +33,45 @@ module _ (text : List ℕ) (demands : Demands) (now : ℕ) (fault : Fault) (refu
   pub text_low : fault.number < 9
   text_low = let number = file_numbers text (failed_of fault) fault.place (subst (file.TextFails text) (fault_is fault) refused.applies) in omega (arith, number, fault.of_condition.1)
 
--- ---- a token that is read
+-- ---- a token whose content is read
 
-module _ (text : List ℕ) (policy : Policy) (algs : List Text) (now : ℕ) (answers : Answers) (demands : Demands) (same : demands ≡ caller_demands policy algs answers)
-    (token : Token) (content : Content) (is : IsToken text token) (sent : IsBindingMissing demands token.parts → ⊥) (has : IsContent token demands.rules content)
-    (signed : IsSigned token.parts.signed token.outer demands.rules) where
-  read : IsRead text demands token content
-  read = record { is_token = is; sent = sent; is_content = has }
-
-  signed_here : IsSigned token.parts.signed token.outer (caller_demands policy algs answers).rules
-  signed_here = subst (λ (d : Demands). IsSigned token.parts.signed token.outer d.rules) same signed
-
-  -- none of the conditions up to 13 fails, so that nothing is said of look-ups where one does
-  pub opened_uncounted : (old new : ℕ) → IsUncounted (FailsFor text (caller_demands policy algs answers) now) old new
-  opened_uncounted old new = subst (λ (d : Demands). IsUncounted (FailsFor text d now) old new) same (read_uncounted text demands now token is sent content has old new)
-
+module _ (k : Case) (token : Token) (hash : HashAlg) where
   -- it is not opened
-  module _ (error : VerifyError) (fault : Fault) (at : error ≡ VerifyError.Fault fault) (refused : OfToken content (λ t rules. OnFault error (IsLowest (TokenFails t rules)))) where
-    pub opened_lowest : IsLowest (FailsFor text (caller_demands policy algs answers) now) fault
-    opened_lowest = subst (λ (d : Demands). IsLowest (FailsFor text d now) fault) same (at_fault error fault (IsLowest (FailsFor text demands now)) at (open_refused text demands token content read now error refused))
+  module _ (error : VerifyError) (fault : Fault) (at : error ≡ VerifyError.Fault fault) (tried : IsTried k.text.now (demands_in k) token hash (Err error)) where
+    lowest : IsLowest (TokenFails token (demands_in k).rules) fault
+    lowest = at_fault error fault (IsLowest (TokenFails token (demands_in k).rules)) at tried.refused
 
     low : fault.number < 27
-    low =
-        let lowest = at_fault error fault (IsLowest (TokenFails token demands.rules)) at (refused token demands.rules has) in
-        let numbers = token_numbers token demands.rules (failed_of fault) fault.place lowest.fails in
-        omega (arith, numbers.1, fault.of_condition.1)
+    low = let numbers = token_numbers token (demands_in k).rules (failed_of fault) fault.place lowest.fails in omega (arith, numbers.1, fault.of_condition.1)
 
-    pub opened_needed : IsNeededAt answers fault.number → WasAsked text (caller_demands policy algs answers) now answers
-    opened_needed = needed_below text (caller_demands policy algs answers) now fault opened_lowest token is answers (signed_text policy algs answers token signed_here) low
+    pub unopened_lowest : IsLowest (fails_in k) fault
+    unopened_lowest = token_lowest k.text.now (demands_in k) k.now token tried.is_token tried.sent fault lowest
 
-    pub opened_done : IsAskedNext text (caller_demands policy algs answers) now answers → ⊥
-    opened_done = done_below text (caller_demands policy algs answers) now fault opened_lowest answers (said_good answers (not_unsaid policy algs answers token signed_here)) low
+    pub unopened_needed : IsNeededAt k.answers fault.number → WasAskedIn k
+    unopened_needed = needed_below k.text.now (demands_in k) k.now fault unopened_lowest token tried.is_token k.answers (signed_text k.policy.now k.binding_algs.now k.answers token tried.signed) low
+
+    pub unopened_done : IsAskedNextIn k → ⊥
+    unopened_done = done_below k.text.now (demands_in k) k.now fault unopened_lowest k.answers (said_good k.answers (not_unsaid k.policy.now k.binding_algs.now k.answers token tried.signed)) low
 
   -- it is opened
-  module _ (payload : Tree) (checked : IsCheckedAs token demands.rules payload) (hash : HashAlg) (has_hash : OfToken content (λ t rules. HasHash t hash)) where
-    opened : IsOpened text demands token checked.0 hash
-    opened = is_opened text demands token content read checked.0 hash checked.1 has_hash
+  module _ (payload : owned.Tree) (tried : IsTried k.text.now (demands_in k) token hash (Ok payload)) (demands : Demands) (same : demands ≡ demands_in k) where
+    opened : IsOpened k.text.now (demands_in k) token tried.checked.0 hash
+    opened = record { is_token = tried.is_token; sent = tried.sent; checked = tried.checked.1; hash_is = tried.hash_is }
 
-    pub shown_accepted : ((t : List ℕ) (marked : Marked) → IsOpened t demands token marked hash → payload ≡ strip marked → IsAcceptedFor t demands now marked) → IsAcceptedForAs text (caller_demands policy algs answers) now payload
-    shown_accepted accepts = (checked.0, subst (λ (d : Demands). IsAcceptedFor text d now checked.0) same (accepts text checked.0 opened checked.2), checked.2)
+    -- what is shown under demands that are those of the case is shown under these
+    shown : (P : Demands → Marked → Type 0) → ((marked : Marked) → IsOpened k.text.now demands token marked hash → tree_of payload ≡ strip marked → P demands marked) → P (demands_in k) tried.checked.0
+    shown P so =
+        let here = subst (λ (d : Demands). IsOpened k.text.now d token tried.checked.0 hash) (sym same) opened in
+        subst (λ (d : Demands). P d tried.checked.0) same (so tried.checked.0 here tried.checked.2)
+
+    pub shown_accepted : ((t : List ℕ) (marked : Marked) → IsOpened t demands token marked hash → tree_of payload ≡ strip marked → IsAcceptedFor t demands k.now marked) → IsAcceptedForAs k.text.now (demands_in k) k.now (tree_of payload)
+    shown_accepted accepts = (tried.checked.0, shown (λ d marked. IsAcceptedFor k.text.now d k.now marked) (accepts k.text.now), tried.checked.2)
 
     pub shown_lowest : (error : VerifyError) (fault : Fault) → error ≡ VerifyError.Fault fault
-        → ((t : List ℕ) (marked : Marked) → IsOpened t demands token marked hash → payload ≡ strip marked → OnFault error (IsLowest (FailsFor t demands now)))
-        → IsLowest (FailsFor text (caller_demands policy algs answers) now) fault
+        → ((t : List ℕ) (marked : Marked) → IsOpened t demands token marked hash → tree_of payload ≡ strip marked → OnFault error (IsLowest (FailsFor t demands k.now)))
+        → IsLowest (fails_in k) fault
     shown_lowest error fault at refuses =
-        subst (λ (d : Demands). IsLowest (FailsFor text d now) fault) same (at_fault error fault (IsLowest (FailsFor text demands now)) at (refuses text checked.0 opened checked.2))
+        at_fault error fault (IsLowest (fails_in k)) at (shown (λ d marked. OnFault error (IsLowest (FailsFor k.text.now d k.now))) (refuses k.text.now))
 
-    pub shown_opened : IsOpenedAs token payload
-    shown_opened = (checked.0, checked.1.opens, checked.2)
+    pub shown_opened : IsOpenedAs token (tree_of payload)
+    shown_opened = (tried.checked.0, tried.checked.1.opens, tried.checked.2)

@@ -1,5 +1,5 @@
 -- What is answered where a caller checks the signatures, from what was to be known.
-use Rattle.std.specs.Prelude.{IfOk}
+use Rattle.std.specs.Prelude.{IfOk, IsOk}
 use Rattle.std.proofs.Common.{◌≡◌, ℕ, List, None, Result, Ok, Err, refl, sym, subst, arith}
 use Rattle.claim_tree.specs.Tree.{Text}
 use Rattle.claim_tree.specs.View.{tree_of}
@@ -10,66 +10,47 @@ use Rattle.refusals.specs.Faults.{failed_of}
 use Rattle.json_form.specs.Token.{IsToken}
 use Rattle.json_form.specs.declared.token.Token.{Token}
 use Rattle.key_binding.specs.declared.caller.SignatureAnswer.{SignatureAnswer}
-use Rattle.verifier_core.specs.Asking.{WasAsked, IsAskedNext, IsJudged, AsksIssuer, AsksHolder, AreSaidGood, IsAcceptedForAs, caller_demands, OnAccepted}
+use Rattle.verifier_core.specs.Asking.{WasAsked, IsAskedNext, IsJudged, IsDone, AsksIssuer, AsksHolder, AreSaidGood, IsAcceptedForAs, caller_demands, OnAccepted, OnRefused, OnAsksIssuer, OnAsksHolder}
+use Rattle.verifier_core.specs.AskingSteps.{demands_in, fails_in, WasAskedIn}
 use Rattle.verifier_core.specs.Check.{IsSigned}
 use Rattle.verifier_core.specs.Verdict.{Demands, FailsFor, Opens}
 use Rattle.verifier_core.specs.declared.asking.Answers.{Answers}
+use Rattle.verifier_core.specs.declared.asking.Case.{Case}
 use Rattle.verifier_core.specs.declared.asking.JudgeError.{JudgeError}
 use Rattle.verifier_core.specs.declared.asking.Judgement.{Judgement}
 use Rattle.verifier_core.specs.declared.asking.Question.{Question}
 use Rattle.verifier_core.specs.declared.policy.Policy.{Policy}
-use Rattle.verifier_core.proofs.Asked.{SaidGood, said_issuer, done_below, one_read, signed_text, not_unsaid, said_good}
+use Rattle.verifier_core.specs.declared.token_checking.VerifyError.{VerifyError}
+use Rattle.verifier_core.proofs.Asked.{SaidGood, said_issuer, issuer_asked, done_below, one_read, signed_text, not_unsaid, said_good}
 use Rattle.verifier_core.proofs.HolderAsked.{accepted_needed, accepted_done, accepted_good}
 
 module _ (text : List ℕ) (demands : Demands) (now : ℕ) (answers : Answers) where
-  pub judged_accepted : (payload : owned.Tree) → IsAcceptedForAs text demands now (tree_of payload) → AreSaidGood demands answers → WasAsked text demands now answers → (IsAskedNext text demands now answers → ⊥)
-      → IsJudged text demands now answers (Ok (Judgement.Accepted payload))
-  judged_accepted payload accepted good needed done = record {
+  judged_as : (j : Judgement) → OnAccepted j (IsAcceptedForAs text demands now) → OnAccepted j (λ _. AreSaidGood demands answers) → OnRefused j (IsLowest (FailsFor text demands now))
+      → OnAsksIssuer j (AsksIssuer text demands now answers) → OnAsksHolder j (AsksHolder text demands now answers) → WasAsked text demands now answers → (IsDone j → IsAskedNext text demands now answers → ⊥)
+      → IsJudged text demands now answers (Ok j)
+  judged_as j accepted good refused asks_issuer asks_holder needed done = record {
     accepted = accepted;
     good = good;
-    refused = tt;
-    asks_issuer = tt;
-    asks_holder = tt;
+    refused = refused;
+    asks_issuer = asks_issuer;
+    asks_holder = asks_holder;
     needed = needed;
-    done = λ is. done;
+    done = done;
     not_asked = λ e. cc e;
   }
+
+  pub judged_accepted : (payload : owned.Tree) → IsAcceptedForAs text demands now (tree_of payload) → AreSaidGood demands answers → WasAsked text demands now answers → (IsAskedNext text demands now answers → ⊥)
+      → IsJudged text demands now answers (Ok (Judgement.Accepted payload))
+  judged_accepted payload accepted good needed done = judged_as (Judgement.Accepted payload) accepted good tt tt tt needed (λ is. done)
 
   pub judged_refused : (fault : Fault) → IsLowest (FailsFor text demands now) fault → WasAsked text demands now answers → (IsAskedNext text demands now answers → ⊥) → IsJudged text demands now answers (Ok (Judgement.Refused fault))
-  judged_refused fault lowest needed done = record {
-    accepted = tt;
-    good = tt;
-    refused = lowest;
-    asks_issuer = tt;
-    asks_holder = tt;
-    needed = needed;
-    done = λ is. done;
-    not_asked = λ e. cc e;
-  }
+  judged_refused fault lowest needed done = judged_as (Judgement.Refused fault) tt tt lowest tt tt needed (λ is. done)
 
   pub judged_issuer : (question : Question) → AsksIssuer text demands now answers question → IsJudged text demands now answers (Ok (Judgement.AsksIssuer question))
-  judged_issuer question asks = record {
-    accepted = tt;
-    good = tt;
-    refused = tt;
-    asks_issuer = asks;
-    asks_holder = tt;
-    needed = subst (WasAsked text demands now) (sym asks.unsaid) tt;
-    done = λ is. absurd is;
-    not_asked = λ e. cc e;
-  }
+  judged_issuer question asks = judged_as (Judgement.AsksIssuer question) tt tt tt asks tt (subst (WasAsked text demands now) (sym asks.unsaid) tt) (λ is. absurd is)
 
   pub judged_holder : (question : Question) (payload : owned.Tree) → AsksHolder text demands now answers question (tree_of payload) → WasAsked text demands now answers → IsJudged text demands now answers (Ok (Judgement.AsksHolder question payload))
-  judged_holder question payload asks needed = record {
-    accepted = tt;
-    good = tt;
-    refused = tt;
-    asks_issuer = tt;
-    asks_holder = asks;
-    needed = needed;
-    done = λ is. absurd is;
-    not_asked = λ e. cc e;
-  }
+  judged_holder question payload asks needed = judged_as (Judgement.AsksHolder question payload) tt tt tt tt asks needed (λ is. absurd is)
 
   pub judged_not_asked : (WasAsked text demands now answers → ⊥) → IsJudged text demands now answers (Err JudgeError.NotAsked)
   judged_not_asked none = record {
@@ -88,6 +69,17 @@ pub said_of_issuer : (answers : Answers) → SaidGood answers → ((answer : Sig
 said_of_issuer Answers.Nothing said other = cc said
 said_of_issuer (Answers.Issuer answer) said other = said_issuer answer said
 said_of_issuer (Answers.Holder answer) said other = absurd (other answer refl)
+
+-- where the signature of the key binding token is not good and nothing was said of it, the issuer's was said to be good, as was to be known
+module _ (k : Case) (fault : Fault) (l : IsLowest (fails_in k) fault) (at : fault.number ≡ 30) (token : Token) (is : IsToken k.text.now token)
+    (signed : IsSigned token.parts.signed token.outer (demands_in k).rules) (other : (answer : SignatureAnswer) → k.answers ≡ Answers.Holder answer → ⊥) where
+  pub said_alone : k.answers ≡ Answers.Issuer SignatureAnswer.Good
+  said_alone = said_of_issuer k.answers (said_good k.answers (not_unsaid k.policy.now k.binding_algs.now k.answers token signed)) other
+
+  pub alone_needed : WasAskedIn k
+  alone_needed =
+      let asked = issuer_asked k.text.now (demands_in k) k.now fault l token is (omega (arith, at)) (signed_text k.policy.now k.binding_algs.now k.answers token signed) in
+      subst (WasAsked k.text.now (demands_in k) k.now) (sym said_alone) (token, asked)
 
 -- nothing is next where the issuer's signature is not good and something was said of it
 pub none_next_of_issuer : (text : List ℕ) (demands : Demands) (now : ℕ) (fault : Fault) → IsLowest (FailsFor text demands now) fault → fault.number ≡ 10 → (answers : Answers) → (answers ≡ Answers.Nothing → ⊥) → IsAskedNext text demands now answers → ⊥
@@ -111,6 +103,15 @@ judged_good text policy algs now answers token payload is signed (marked, accept
     (accepted_done text policy algs now answers accepted.passes token is marked opens signature said)
 
 -- ---- the look-ups
+
+-- what is so where the payload is opened is so where a token is accepted
+pub accepted_opened : {A : Type 0} (result : Result Judgement JudgeError) (opened : Result A VerifyError) (P : Type 0) → IfOk result (λ j. OnAccepted j (λ _. IsOk opened)) → IfOk opened (λ _. P) → IfOk result (λ j. OnAccepted j (λ _. P))
+accepted_opened (Ok (Judgement.Accepted payload)) (Ok shown) P is h = h
+accepted_opened (Ok (Judgement.Accepted payload)) (Err error) P is h = cc is
+accepted_opened (Ok (Judgement.Refused fault)) opened P is h = tt
+accepted_opened (Ok (Judgement.AsksIssuer question)) opened P is h = tt
+accepted_opened (Ok (Judgement.AsksHolder question payload)) opened P is h = tt
+accepted_opened (Err error) opened P is h = tt
 
 -- what is so is so where a token is accepted
 pub where_accepted : (result : Result Judgement JudgeError) (P : Type 0) → P → IfOk result (λ j. OnAccepted j (λ _. P))

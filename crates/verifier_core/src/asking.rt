@@ -1,5 +1,5 @@
 // The verdict on a token file, where a caller checks the signatures.
-ghost use Rattle.std.specs.Prelude.{◌≡◌, ◌↔◌, ◌++◌, Some, codes, IsTrue, IfOk, OnOk, IfSome, IfNone, IsErrOf, option_map};
+ghost use Rattle.std.specs.Prelude.{◌≡◌, ◌↔◌, ◌++◌, Some, codes, IsTrue, IsOk, IfOk, OnOk, IfSome, IfNone, IsErrOf, option_map};
 ghost use Rattle.b64url_text.specs.NotBase64.{IsNotBase64};
 ghost use Rattle.claim_tree.specs.View.{tree_of};
 ghost use Rattle.refusals.specs.Lowest.{IsLowest};
@@ -10,7 +10,7 @@ ghost use Rattle.key_binding.specs.JudgedSteps.{rules_seen};
 ghost use Rattle.verifier_core.specs.Verdict.{FailsFor};
 ghost use Rattle.verifier_core.specs.Check.{IsUnopened, IsSigned, IsCounted, IsReadCounted, IsCountedWithin, IsReadWithin, IsUncounted};
 ghost use Rattle.verifier_core.specs.Asking.{caller_demands as demands_of_caller, asked_rules, issuer_answer as issuer_answer_of, holder_answer as holder_answer_of, OnAccepted, OnRefused, OnAsksIssuer, OnAsksHolder, IsQuestion, IsAcceptedForAs, AreSaidGood, AsksIssuer, AsksHolder, WasAsked, IsAskedNext, IsDone, IsNeededAt, IsEarlyOrSigned, IsOpenedAs};
-ghost use Rattle.verifier_core.specs.AskingSteps.{demands_in, fails_in, WasAskedIn, IsAskedNextIn, IsJudgedIn};
+ghost use Rattle.verifier_core.specs.AskingSteps.{demands_in, fails_in, WasAskedIn, IsAskedNextIn, IsJudgedIn, IsTried, FailsAt};
 ghost use Rattle.claim_tree.specs.Tree.{no_members};
 ghost use Rattle.verifier_core.specs.declared.asking.JudgeError as unjudged;
 ghost use Rattle.verifier_core.specs.declared.token_checking.VerifyError as failed;
@@ -23,7 +23,7 @@ use b64url_text::{DecodeError, decode};
 use claim_tree::{Tree, TreeMap};
 use compact_form::JwtView;
 use digest_index::Steps;
-use disclosure::DisclosureReader;
+use disclosure::{DisclosureReader, HashAlg};
 use json_form::TokenText;
 use jws_part::{Header, HeaderError, read_header};
 use key_binding::{BindingRules, Caller, Holders, SignatureAnswer};
@@ -240,9 +240,7 @@ fn ask_issuer(
     question: Question,
     fault: Fault,
 ) -> Result<Judgement, JudgeError>
-    requires token { IsToken case.text.now token.now }
-    requires lowest { IsLowest (fails_in case) fault }
-    requires bad { fault.number ≡ 10 }
+    requires bad { FailsAt case token.now 10 fault }
     requires question { IsQuestion token.now.parts.signed token.now.outer question }
     ensures { IsJudgedIn case.entry result }
 {
@@ -258,34 +256,13 @@ fn on_no_signature(
     token: &TokenText<'_>,
     fault: Fault,
 ) -> Result<Judgement, JudgeError>
-    requires token { IsToken case.text.now token.now }
-    requires lowest { IsLowest (fails_in case) fault }
-    requires bad { fault.number ≡ 10 }
+    requires bad { FailsAt case token.now 10 fault }
     requires none { IsNotBase64 token.now.parts.signed.signature }
     ensures { IsJudgedIn case.entry result }
 {
     match case.answers {
         Answers::Nothing => Ok(Judgement::Refused(fault)),
         _ => Err(JudgeError::NotAsked),
-    }
-}
-
-// What is answered where the issuer's signature is not good, or nothing was said of it.
-fn on_bad_signature(
-    alloc: Global,
-    case: Case<'_>,
-    token: &TokenText<'_>,
-    fault: Fault,
-) -> Result<Judgement, JudgeError>
-    requires token { IsToken case.text.now token.now }
-    requires lowest { IsLowest (fails_in case) fault }
-    requires bad { fault.number ≡ 10 }
-    ensures { IsJudgedIn case.entry result }
-{
-    let view = token.view();
-    match question_on(alloc, view.signed(), view.outer())? {
-        Some(question) => ask_issuer(case, token, question, fault),
-        None => on_no_signature(case, token, fault),
     }
 }
 
@@ -302,10 +279,13 @@ fn on_content(
     requires unopened { IsUnopened fault }
     ensures { IsJudgedIn case.entry result }
 {
-    if fault.number == 10 {
-        on_bad_signature(alloc, case, token, fault)
-    } else {
-        refused(case, fault)
+    if fault.number != 10 {
+        return refused(case, fault);
+    }
+    let view = token.view();
+    match question_on(alloc, view.signed(), view.outer())? {
+        Some(question) => ask_issuer(case, token, question, fault),
+        None => on_no_signature(case, token, fault),
     }
 }
 
@@ -318,12 +298,10 @@ fn ask_holder(
     payload: Tree,
     fault: Fault,
 ) -> Result<Judgement, JudgeError>
-    requires token { IsToken case.text.now token.now }
+    requires bad { FailsAt case token.now 30 fault }
     requires sent { token.now.parts.binding ≡ Some (jwt_of binding) }
-    requires lowest { IsLowest (fails_in case) fault }
     requires signed { IsSigned token.now.parts.signed token.now.outer (demands_in case).rules }
     requires opened { IsOpenedAs token.now (tree_of payload) }
-    requires bad { fault.number ≡ 30 }
     requires question { IsQuestion (jwt_of binding) no_members question }
     ensures { IsJudgedIn case.entry result }
 {
@@ -340,43 +318,15 @@ fn on_no_binding_signature(
     binding: JwtView<'_>,
     fault: Fault,
 ) -> Result<Judgement, JudgeError>
-    requires token { IsToken case.text.now token.now }
+    requires bad { FailsAt case token.now 30 fault }
     requires sent { token.now.parts.binding ≡ Some (jwt_of binding) }
-    requires lowest { IsLowest (fails_in case) fault }
     requires signed { IsSigned token.now.parts.signed token.now.outer (demands_in case).rules }
-    requires bad { fault.number ≡ 30 }
     requires none { IsNotBase64 (jwt_of binding).signature }
     ensures { IsJudgedIn case.entry result }
 {
     match case.answers {
         Answers::Holder(_) => Err(JudgeError::NotAsked),
         _ => Ok(Judgement::Refused(fault)),
-    }
-}
-
-// What is answered where the signature of the key binding token is not good, or
-// nothing was said of it.
-fn on_bad_binding(
-    alloc: Global,
-    case: Case<'_>,
-    token: &TokenText<'_>,
-    payload: Tree,
-    fault: Fault,
-) -> Result<Judgement, JudgeError>
-    requires token { IsToken case.text.now token.now }
-    requires lowest { IsLowest (fails_in case) fault }
-    requires signed { IsSigned token.now.parts.signed token.now.outer (demands_in case).rules }
-    requires opened { IsOpenedAs token.now (tree_of payload) }
-    requires bad { fault.number ≡ 30 }
-    ensures { IsJudgedIn case.entry result }
-{
-    let view = token.view();
-    let Some(binding) = view.binding() else {
-        unreachable!()
-    };
-    match question_on(alloc, binding, &TreeMap::new(alloc))? {
-        Some(question) => ask_holder(case, token, binding, question, payload, fault),
-        None => on_no_binding_signature(case, token, binding, fault),
     }
 }
 
@@ -394,10 +344,16 @@ fn on_shown(
     requires opened { IsOpenedAs token.now (tree_of payload) }
     ensures { IsJudgedIn case.entry result }
 {
-    if fault.number == 30 {
-        on_bad_binding(alloc, case, token, payload, fault)
-    } else {
-        refused(case, fault)
+    if fault.number != 30 {
+        return refused(case, fault);
+    }
+    let view = token.view();
+    let Some(binding) = view.binding() else {
+        unreachable!()
+    };
+    match question_on(alloc, binding, &TreeMap::new(alloc))? {
+        Some(question) => ask_holder(case, token, binding, question, payload, fault),
+        None => on_no_binding_signature(case, token, binding, fault),
     }
 }
 
@@ -427,6 +383,33 @@ fn fault_of(error: VerifyError) -> Result<Fault, NoMemory>
     }
 }
 
+// The judgement of a token whose content is read, and which is opened to this payload or refused.
+fn judge_opened(
+    alloc: Global,
+    case: Case<'_>,
+    token: &TokenText<'_>,
+    hash: HashAlg,
+    opened: Result<Tree, VerifyError>,
+) -> Result<Judgement, JudgeError>
+    requires tried { IsTried case.text.now (demands_in case) token.now hash opened }
+    ensures judged { IsJudgedIn case.entry result }
+    ensures opened { IfOk result (λ j. OnAccepted j (λ _. IsOk opened)) }
+{
+    let payload = match opened {
+        Ok(payload) => payload,
+        Err(error) => return refused(case, fault_of(error)?),
+    };
+    let shown = Shown {
+        token,
+        payload: &payload,
+        hash,
+    };
+    match check_shown(alloc, shown, &caller_demands(case), case.now) {
+        Ok(()) => accepted(case, token, payload),
+        Err(error) => on_shown(alloc, case, token, payload, fault_of(error)?),
+    }
+}
+
 // The judgement of a token that is read.
 fn judge_token(
     alloc: Global,
@@ -444,24 +427,13 @@ fn judge_token(
     ensures uncounted { IsUncounted (fails_in case.entry) steps.old steps.new }
 {
     let demands = caller_demands(case);
-    let read = read_content(alloc, &mut DisclosureReader::new(alloc), token, &demands);
-    let content = match read {
-        Ok(content) => content,
-        Err(error) => return on_content(alloc, case, token, fault_of(error)?),
-    };
-    let hash = content.hash();
-    let payload = match content.open_payload(alloc, steps) {
-        Ok(payload) => payload,
-        Err(error) => return refused(case, fault_of(error)?),
-    };
-    let shown = Shown {
-        token,
-        payload: &payload,
-        hash,
-    };
-    match check_shown(alloc, shown, &demands, case.now) {
-        Ok(()) => accepted(case, token, payload),
-        Err(error) => on_shown(alloc, case, token, payload, fault_of(error)?),
+    match read_content(alloc, &mut DisclosureReader::new(alloc), token, &demands) {
+        Ok(content) => {
+            let hash = content.hash();
+            let opened = content.open_payload(alloc, steps);
+            judge_opened(alloc, case, token, hash, opened)
+        }
+        Err(error) => on_content(alloc, case, token, fault_of(error)?),
     }
 }
 

@@ -8,9 +8,9 @@ pub refused-requires : goal.refused-requires
 refused-requires c =
     let k = c.args.case in
     record {
-      lowest = c.requires.lowest;
-      needed = needed_below k.text.now (demands_in k) k.now c.args.fault c.requires.lowest c.args.token.now c.requires.token k.answers (λ none. none c.args.question.signature c.requires.question.signature) (omega (arith, c.requires.bad));
-      done = none_next_of_issuer k.text.now (demands_in k) k.now c.args.fault c.requires.lowest c.requires.bad k.answers c.in_default.not-Nothing;
+      lowest = c.requires.bad.lowest;
+      needed = needed_below k.text.now (demands_in k) k.now c.args.fault c.requires.bad.lowest c.args.token.now c.requires.bad.is_token k.answers (λ none. none c.args.question.signature c.requires.question.signature) (omega (arith, c.requires.bad.at));
+      done = none_next_of_issuer k.text.now (demands_in k) k.now c.args.fault c.requires.bad.lowest c.requires.bad.at k.answers c.in_default.not-Nothing;
     }
 
 pub returns-in-Nothing : goal.returns-in-Nothing
@@ -20,6 +20,6 @@ returns-in-Nothing c =
     (record {
       unsaid = c.in-Nothing.is;
       token = c.args.token.now;
-      asked = issuer_asked k.text.now (demands_in k) k.now c.args.fault c.requires.lowest c.args.token.now c.requires.token (omega (arith, c.requires.bad)) (λ none. none c.args.question.signature c.requires.question.signature);
+      asked = issuer_asked k.text.now (demands_in k) k.now c.args.fault c.requires.bad.lowest c.args.token.now c.requires.bad.is_token (omega (arith, c.requires.bad.at)) (λ none. none c.args.question.signature c.requires.question.signature);
       question_is = c.requires.question;
     })
