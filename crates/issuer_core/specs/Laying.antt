@@ -82,6 +82,7 @@ ForAllDigests d hash texts Holds =
 
 -- ---- the disclosures so far
 
+-- the layer has the digest of each of its texts, in their order
 abbrev pub HasDigests : HashAlg → Layer → Type 0
 HasDigests hash layer = layer.digests ≡ map (digest_of hash) layer.texts
 
