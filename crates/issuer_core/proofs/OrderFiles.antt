@@ -5,14 +5,14 @@ use Rattle.claim_tree.specs.Tree as spec
 use Rattle.claim_tree.specs.Tree.{Text, text, leaf, object, Elements, no_elements, element, Members, member_named, depth, members_depth}
 use Rattle.sd_outside.specs.Lists.{In}
 use Rattle.claim_tree.specs.View.{tree_of}
-use Rattle.claim_tree.specs.TreeValues.{IsText, IsWholeUpTo, Says, MaySay, SaysOr, HasValue, IsListOf, EachSays, IsPointer}
-use Rattle.file_members.specs.FileForms.{MemberMeets, MemberFails, missing, wrong, optional, found}
+use Rattle.claim_tree.specs.TreeValues.{IsText, IsWholeUpTo, Says, SaysOr, HasValue, IsListOf, EachSays, IsPointer}
+use Rattle.file_members.specs.FileForms.{MemberMeets, MemberFails, missing, wrong, required, optional, found}
 use Rattle.file_members.specs.FileRefusals.{IsMemberRefused}
 use Rattle.file_members.specs.declared.field.Field.{Field}
 use Rattle.file_members.specs.declared.field.Field.TheVariants.{Payload, Hide, Decoys, Key, Kid, Typ, SdAlg}
 use Rattle.file_members.specs.declared.file_fault.FileFault.{FileFault}
 use Rattle.file_members.specs.declared.file_fault.FileFault.TheVariants.{Memory, Wrong}
-use Rattle.file_members.proofs.FileMembers.{says_meets, may_say_meets, says_or_meets}
+use Rattle.file_members.proofs.FileMembers.{says_meets, may_say_meets, says_or_meets, AllMeet}
 use Rattle.claim_tree.proofs.TreeValues as values
 use Rattle.file_members.proofs.FileVerdicts as verdicts
 use Rattle.claim_tree.proofs.TreeValues.{SaysOne}
@@ -24,9 +24,12 @@ use Rattle.hmac_sign.proofs.AlgNames.{of_its_text}
 use Rattle.hmac_sign.specs.Hmac.{alg_key}
 use Rattle.hmac_sign.specs.KeyText.{IsKeyBytes}
 use Rattle.hmac_sign.specs.declared.alg.Alg.{Alg}
-use Rattle.issuer_core.specs.Order.{Order, order_of}
+use Rattle.issuer_core.specs.Order as seen
+use Rattle.issuer_core.specs.Order.{order_of}
 use Rattle.issuer_core.specs.OrderFile.{IsValue, IsDecoy, IsHashText, IsAlgText, IsAlgFor, IsAlgOf, HasKey, order_table, IsOrderFile, IsOrderFileRefused}
+use Rattle.issuer_core.specs.UnsignedOrder.{unsigned_order_table, SaysOrder}
 use Rattle.issuer_core.specs.declared.order.Decoy.{Decoy}
+use Rattle.issuer_core.specs.declared.order.Order.{Order}
 use Rattle.issuer_core.specs.declared.order_file.IssueFile.{IssueFile}
 use Rattle.claim_tree.proofs.ListForms.{one_list, one_pointer}
 use Rattle.claim_tree.proofs.OtherMembers.{depth-member_named}
@@ -136,70 +139,65 @@ alg_meets bytes key ms alg has says = says_or_meets (IsAlgOf bytes) Alg.Hs256 Fi
     go None h = h
     go (Some t) h = record { key = key; has = has; is_for = h }
 
--- ---- the file
+-- ---- the order
 
-made : spec.Tree → List (List Text) → List Decoy → Option Text → Option Text → HashAlg → Order
+made : spec.Tree → List (List Text) → List Decoy → Option Text → Option Text → HashAlg → seen.Order
 made payload hide decoys kid typ hash = record { payload = payload; hide = hide; decoys = decoys; kid = kid; typ = typ; hash = hash }
 
--- what the members say is one
-module _ (bytes : Text) (f g : IssueFile) (h : IsOrderFile bytes f) (k : IsOrderFile bytes g) where
-  same : h.members ≡ k.members
-  same = verdicts.one_object file_max bytes h.members k.members h.file.object k.file.object
+-- what members say is one order
+pub one_said : (ms : Members) (f g : Order) → SaysOrder ms f → SaysOrder ms g → order_of f ≡ order_of g
+unfolding made
+one_said ms f g h k =
+    let payload = values.says_one IsValue (found ms Payload) (tree_of f.payload) (tree_of g.payload) one_value h.payload k.payload in
+    let hide = values.says_or_one (IsListOf IsPointer) [] (found ms Hide) f.hide g.hide (one_list IsPointer one_pointer) h.places.hide k.places.hide in
+    let decoys = values.says_or_one (IsListOf IsDecoy) [] (found ms Decoys) f.decoys g.decoys (one_list IsDecoy one_decoy) h.places.decoys k.places.decoys in
+    let kid = values.may_say_one IsText (found ms Kid) f.kid g.kid values.one_text h.kid k.kid in
+    let typ = values.may_say_one IsText (found ms Typ) f.typ g.typ values.one_text h.typ k.typ in
+    let hash = values.says_or_one IsHashText HashAlg.Sha256 (found ms SdAlg) f.hash g.hash one_hash_text h.hash k.hash in
+    ap (λ x. made x f.hide f.decoys f.kid f.typ f.hash) payload
+    ∙ (ap (λ x. made (tree_of g.payload) x f.decoys f.kid f.typ f.hash) hide
+    ∙ (ap (λ x. made (tree_of g.payload) g.hide x f.kid f.typ f.hash) decoys
+    ∙ (ap (λ x. made (tree_of g.payload) g.hide g.decoys x f.typ f.hash) kid
+    ∙ (ap (λ x. made (tree_of g.payload) g.hide g.decoys g.kid x f.hash) typ
+    ∙ ap (λ x. made (tree_of g.payload) g.hide g.decoys g.kid g.typ x) hash))))
 
-  claims_one : tree_of f.order.payload ≡ tree_of g.order.payload
-  claims_one = values.says_one IsValue (found k.members Payload) (tree_of f.order.payload) (tree_of g.order.payload) one_value (subst (λ ns. Says IsValue (found ns Payload) (tree_of f.order.payload)) same h.payload) k.payload
+-- members that say an order meet their entries
+pub said_meet : (ms : Members) (order : Order) → SaysOrder ms order → AllMeet unsigned_order_table ms
+said_meet ms order says =
+    let payload = says_meets IsValue Payload ms (tree_of order.payload) says.payload in
+    let hide = says_or_meets (IsListOf IsPointer) [] Hide ms order.hide says.places.hide in
+    let decoys = says_or_meets (IsListOf IsDecoy) [] Decoys ms order.decoys says.places.decoys in
+    let kid = may_say_meets IsText Kid ms order.kid says.kid in
+    let typ = may_say_meets IsText Typ ms order.typ says.typ in
+    let hash = says_or_meets IsHashText HashAlg.Sha256 SdAlg ms order.hash says.hash in
+    (payload, (hide, (decoys, (kid, (typ, (hash, tt))))))
 
-  hide_one : f.order.hide ≡ g.order.hide
-  hide_one = values.says_or_one (IsListOf IsPointer) [] (found k.members Hide) f.order.hide g.order.hide (one_list IsPointer one_pointer) (subst (λ ns. SaysOr (IsListOf IsPointer) [] (found ns Hide) f.order.hide) same h.hide) k.hide
+-- ---- the file
 
-  decoys_one : f.order.decoys ≡ g.order.decoys
-  decoys_one = values.says_or_one (IsListOf IsDecoy) [] (found k.members Decoys) f.order.decoys g.order.decoys (one_list IsDecoy one_decoy) (subst (λ ns. SaysOr (IsListOf IsDecoy) [] (found ns Decoys) f.order.decoys) same h.decoys) k.decoys
-
-  kid_one : f.order.kid ≡ g.order.kid
-  kid_one = values.may_say_one IsText (found k.members Kid) f.order.kid g.order.kid values.one_text (subst (λ ns. MaySay IsText (found ns Kid) f.order.kid) same h.kid) k.kid
-
-  typ_one : f.order.typ ≡ g.order.typ
-  typ_one = values.may_say_one IsText (found k.members Typ) f.order.typ g.order.typ values.one_text (subst (λ ns. MaySay IsText (found ns Typ) f.order.typ) same h.typ) k.typ
-
-  hash_one : f.order.hash ≡ g.order.hash
-  hash_one = values.says_or_one IsHashText HashAlg.Sha256 (found k.members SdAlg) f.order.hash g.order.hash one_hash_text (subst (λ ns. SaysOr IsHashText HashAlg.Sha256 (found ns SdAlg) f.order.hash) same h.hash) k.hash
-
-  bytes_one : h.key_bytes ≡ k.key_bytes
-  bytes_one = values.says_one IsKeyBytes (found k.members Key) h.key_bytes k.key_bytes one_key_bytes (subst (λ ns. Says IsKeyBytes (found ns Key) h.key_bytes) same h.says_key) k.says_key
-
-  alg_one : h.alg ≡ k.alg
-  alg_one =
-      let other = subst (λ (b : List ℕ). SaysOr (IsAlgFor (length b)) Alg.Hs256 (found h.members Field.Alg) h.alg) bytes_one h.says_alg in
-      values.says_or_one (IsAlgFor (length k.key_bytes)) Alg.Hs256 (found k.members Field.Alg) h.alg k.alg (one_alg_for (length k.key_bytes)) (subst (λ ns. SaysOr (IsAlgFor (length k.key_bytes)) Alg.Hs256 (found ns Field.Alg) h.alg) same other) k.says_alg
-
-  pub key_one : f.key ≡ g.key
-  key_one = h.key ∙ (ap₂ alg_key alg_one bytes_one ∙ sym k.key)
-
-  pub order_one : order_of f.order ≡ order_of g.order
-  unfolding made
-  order_one =
-      ap (λ x. made x f.order.hide f.order.decoys f.order.kid f.order.typ f.order.hash) claims_one
-      ∙ (ap (λ x. made (tree_of g.order.payload) x f.order.decoys f.order.kid f.order.typ f.order.hash) hide_one
-      ∙ (ap (λ x. made (tree_of g.order.payload) g.order.hide x f.order.kid f.order.typ f.order.hash) decoys_one
-      ∙ (ap (λ x. made (tree_of g.order.payload) g.order.hide g.order.decoys x f.order.typ f.order.hash) kid_one
-      ∙ (ap (λ x. made (tree_of g.order.payload) g.order.hide g.order.decoys g.order.kid x f.order.hash) typ_one
-      ∙ ap (λ x. made (tree_of g.order.payload) g.order.hide g.order.decoys g.order.kid g.order.typ x) hash_one))))
+-- what the members say of the order
+said_order : (bytes : Text) (said : IssueFile) (h : IsOrderFile bytes said) → SaysOrder h.members said.order
+said_order bytes said h = record { payload = h.payload; places = record { hide = h.hide; decoys = h.decoys }; kid = h.kid; typ = h.typ; hash = h.hash }
 
 pub one_order : (bytes : Text) (f g : IssueFile) → IsOrderFile bytes f → IsOrderFile bytes g → (order_of f.order ≡ order_of g.order) × (f.key ≡ g.key)
-one_order bytes f g h k = (order_one bytes f g h k, key_one bytes f g h k)
+one_order bytes f g h k =
+    let same : h.members ≡ k.members = verdicts.one_object file_max bytes h.members k.members h.file.object k.file.object in
+    let order = one_said k.members f.order g.order (subst (λ ns. SaysOrder ns f.order) same (said_order bytes f h)) (said_order bytes g k) in
+    let key = values.says_one IsKeyBytes (found k.members Key) h.key_bytes k.key_bytes one_key_bytes (subst (λ ns. Says IsKeyBytes (found ns Key) h.key_bytes) same h.says_key) k.says_key in
+    let other = subst (λ (b : List ℕ). SaysOr (IsAlgFor (length b)) Alg.Hs256 (found h.members Field.Alg) h.alg) key h.says_alg in
+    let alg = values.says_or_one (IsAlgFor (length k.key_bytes)) Alg.Hs256 (found k.members Field.Alg) h.alg k.alg (one_alg_for (length k.key_bytes)) (subst (λ ns. SaysOr (IsAlgFor (length k.key_bytes)) Alg.Hs256 (found ns Field.Alg) h.alg) same other) k.says_alg in
+    (order, h.key ∙ (ap₂ alg_key alg key ∙ sym k.key))
+
+-- the table has the key behind the head, and the algorithm before the hash
+with_key : (bytes : Text) (ms : Members) → AllMeet unsigned_order_table ms → MemberMeets (required Key IsKeyBytes) ms → MemberMeets (optional Field.Alg (IsAlgOf bytes)) ms → AllMeet (order_table bytes) ms
+with_key bytes ms (payload, (hide, (decoys, (kid, (typ, (hash, none)))))) key alg = (payload, (hide, (decoys, (key, (kid, (typ, (alg, (hash, none))))))))
 
 pub not_both : (bytes : Text) (said : IssueFile) (fault : FileFault) → IsOrderFile bytes said → IsOrderFileRefused bytes fault → fault ≡ FileFault.Memory
 not_both bytes said fault says refused =
     let ms = says.members in
-    let payload = says_meets IsValue Payload ms (tree_of said.order.payload) says.payload in
-    let hide = says_or_meets (IsListOf IsPointer) [] Hide ms said.order.hide says.hide in
-    let decoys = says_or_meets (IsListOf IsDecoy) [] Decoys ms said.order.decoys says.decoys in
     let key = says_meets IsKeyBytes Key ms says.key_bytes says.says_key in
-    let kid = may_say_meets IsText Kid ms said.order.kid says.kid in
-    let typ = may_say_meets IsText Typ ms said.order.typ says.typ in
     let alg = alg_meets bytes says.key_bytes ms says.alg (record { members = ms; file = says.file.object; says = says.says_key }) says.says_alg in
-    let hash = says_or_meets IsHashText HashAlg.Sha256 SdAlg ms said.order.hash says.hash in
-    verdicts.not_refused file_max (order_table bytes) bytes ms fault says.file (payload, (hide, (decoys, (key, (kid, (typ, (alg, (hash, tt)))))))) refused
+    let meet = with_key bytes ms (said_meet ms said.order (said_order bytes said says)) key alg in
+    verdicts.not_refused file_max (order_table bytes) bytes ms fault says.file meet refused
 
 pub one_fault : (bytes : Text) (fault other : FileFault) → IsOrderFileRefused bytes fault → IsOrderFileRefused bytes other → fault ≢ FileFault.Memory → other ≢ FileFault.Memory → fault ≡ other
 one_fault bytes fault other h k = verdicts.one_fault file_max (order_table bytes) bytes fault other h k

@@ -1,29 +1,29 @@
 // The file that says an order.
 ghost use Rattle.std.specs.Prelude.{◌≡◌, ◌≤◌, List, [], length, OnOk, IfOk, IfErr, IfSome, IfNone};
-ghost use Rattle.sd_outside.specs.Limits.{count_max, key_min};
-ghost use Rattle.claim_tree.specs.Tree.{IsOrdered, depth as depth_of};
+ghost use Rattle.sd_outside.specs.Limits.{count_max, file_max, json_depth_max, key_min};
+ghost use Rattle.claim_tree.specs.Tree.{IsOrdered, object, depth as depth_of};
 ghost use Rattle.sd_outside.specs.Lists.{In};
 ghost use Rattle.claim_tree.specs.View.{tree_of};
 ghost use Rattle.claim_tree.specs.ListViews.{elements_of};
-ghost use Rattle.claim_tree.specs.TreeValues.{HasValue, Says, SaysOr, IsListOf, EachSays};
-ghost use Rattle.file_members.specs.FileForms.{MemberMeets, required, optional, found};
+ghost use Rattle.claim_tree.specs.TreeValues.{IsText, HasValue, Says, MaySay, SaysOr, IsListOf, EachSays};
+ghost use Rattle.file_members.specs.FileForms.{MemberMeets, HasMembers, required, optional, found};
 ghost use Rattle.file_members.specs.FileRefusals.{IsMemberRefused};
 ghost use Rattle.file_members.specs.declared.field.Field.{Field};
-ghost use Rattle.file_members.specs.declared.field.Field.TheVariants.{Payload, Decoys, SdAlg};
+ghost use Rattle.file_members.specs.declared.field.Field.TheVariants.{Payload, Decoys, Kid, Typ, SdAlg};
 ghost use Rattle.disclosure.specs.declared.digests.HashAlg.{HashAlg};
 ghost use Rattle.hmac_sign.specs.Hmac.{alg_key};
 ghost use Rattle.hmac_sign.specs.declared.alg.Alg.{Alg};
 ghost use Rattle.issuer_core.specs.declared.order.Decoy.{Decoy as Seen};
 ghost use Rattle.issuer_core.specs.OrderFile.{IsValue, IsDecoy, IsHashText, IsAlgText, IsAlgFor, IsOrderFile, IsOrderFileRefused};
-ghost use Rattle.issuer_core.specs.UnsignedOrder.{IsUnsignedOrderFile, IsUnsignedOrderRefused};
+ghost use Rattle.issuer_core.specs.UnsignedOrder.{IsUnsignedOrderFile, IsUnsignedOrderRefused, SaysHead, IsHeadRefused, SaysOrder};
 
 use crate::{Decoy, DecoyList, Order};
-use claim_tree::{Tree, TreeMap, pointer_of, whole_up_to};
+use claim_tree::{PathList, Tree, TreeMap, pointer_of, whole_up_to};
 use compact_form::FILE_MAX;
 use disclosure::{HashAlg, hash_named};
 use file_members::{Field, FileFault, pointer_list_member, read_members, text_member};
 use hmac_sign::{Alg, HsKey, KeyShort, alg_named, key_bytes_member};
-use sd_outside::NoMemory;
+use sd_outside::{NoMemory, TextBox};
 use std::alloc::Global;
 
 const FIELDS: [Field; 8] = [
@@ -55,6 +55,15 @@ const ENTRY_MAX: u32 = 32_768;
 pub struct IssueFile {
     pub order: Order,
     pub key: HsKey,
+}
+
+// What stands before the key of an order file: all its members, of which `payload` is one, and the
+// places that two of them name.
+#[derive(Drop)]
+struct Head {
+    members: TreeMap,
+    hide: PathList,
+    decoys: DecoyList,
 }
 
 fn need_payload(members: &TreeMap) -> Result<(), FileFault>
@@ -198,6 +207,47 @@ fn hash_member(members: &TreeMap) -> Result<HashAlg, FileFault>
     }
 }
 
+// Reads a file that may have these members, as far as its head.
+fn read_head(alloc: Global, bytes: &[u8], fields: &[Field]) -> Result<Head, FileFault>
+    ensures file { IfOk result (λ head. HasMembers file_max fields.now bytes.now head.members) }
+    ensures depth { IfOk result (λ head. depth_of (object head.members) ≤ json_depth_max) }
+    ensures says { IfOk result SaysHead }
+    ensures refused { IfErr result (IsHeadRefused fields.now bytes.now) }
+{
+    let members = read_members(alloc, bytes, FILE_MAX, fields)?;
+    need_payload(&members)?;
+    let hide = pointer_list_member(alloc, &members, Field::Hide)?;
+    let decoys = decoys_member(alloc, &members)?;
+    Ok(Head {
+        members,
+        hide,
+        decoys,
+    })
+}
+
+// The order of a file of which all but the hash is read.
+fn into_order(head: Head, kid: Option<TextBox>, typ: Option<TextBox>) -> Result<Order, FileFault>
+    requires depth { depth_of (object head.members) ≤ json_depth_max }
+    requires head { SaysHead head }
+    requires kid { MaySay IsText (found head.members Kid) kid }
+    requires typ { MaySay IsText (found head.members Typ) typ }
+    ensures says { IfOk result (SaysOrder head.members) }
+    ensures depth { IfOk result (λ order. depth_of (tree_of order.payload) ≤ 126) }
+    ensures counts { IfOk result
+        (λ order. (entry : Seen) → In entry order.decoys → entry.count ≤ count_max) }
+    ensures refused { IfErr result (IsMemberRefused (optional SdAlg IsHashText) head.members) }
+{
+    let hash = hash_member(&head.members)?;
+    Ok(Order {
+        payload: into_payload(head.members),
+        hide: head.hide,
+        decoys: head.decoys,
+        kid,
+        typ,
+        hash,
+    })
+}
+
 /// The order that a file says: a JSON object that must have `payload`, any JSON value, and `key`,
 /// the base64url text of at least 32 bytes.
 ///
@@ -214,23 +264,12 @@ pub fn read_order(alloc: Global, bytes: &[u8]) -> Result<IssueFile, FileFault>
         (λ said. (entry : Seen) → In entry said.order.decoys → entry.count ≤ count_max) }
     ensures refused { IfErr result (IsOrderFileRefused bytes.now) }
 {
-    let members = read_members(alloc, bytes, FILE_MAX, &FIELDS)?;
-    need_payload(&members)?;
-    let hide = pointer_list_member(alloc, &members, Field::Hide)?;
-    let decoys = decoys_member(alloc, &members)?;
-    let key_bytes = key_bytes_member(alloc, &members, Field::Key)?;
-    let kid = text_member(alloc, &members, Field::Kid)?;
-    let typ = text_member(alloc, &members, Field::Typ)?;
-    let key = key_by_alg(&members, key_bytes.bytes())?;
-    let hash = hash_member(&members)?;
-    let order = Order {
-        payload: into_payload(members),
-        hide,
-        decoys,
-        kid,
-        typ,
-        hash,
-    };
+    let head = read_head(alloc, bytes, &FIELDS)?;
+    let key_bytes = key_bytes_member(alloc, &head.members, Field::Key)?;
+    let kid = text_member(alloc, &head.members, Field::Kid)?;
+    let typ = text_member(alloc, &head.members, Field::Typ)?;
+    let key = key_by_alg(&head.members, key_bytes.bytes())?;
+    let order = into_order(head, kid, typ)?;
     Ok(IssueFile { order, key })
 }
 
@@ -244,19 +283,8 @@ pub fn read_unsigned_order(alloc: Global, bytes: &[u8]) -> Result<Order, FileFau
         (λ order. (entry : Seen) → In entry order.decoys → entry.count ≤ count_max) }
     ensures refused { IfErr result (IsUnsignedOrderRefused bytes.now) }
 {
-    let members = read_members(alloc, bytes, FILE_MAX, &UNSIGNED_FIELDS)?;
-    need_payload(&members)?;
-    let hide = pointer_list_member(alloc, &members, Field::Hide)?;
-    let decoys = decoys_member(alloc, &members)?;
-    let kid = text_member(alloc, &members, Field::Kid)?;
-    let typ = text_member(alloc, &members, Field::Typ)?;
-    let hash = hash_member(&members)?;
-    Ok(Order {
-        payload: into_payload(members),
-        hide,
-        decoys,
-        kid,
-        typ,
-        hash,
-    })
+    let head = read_head(alloc, bytes, &UNSIGNED_FIELDS)?;
+    let kid = text_member(alloc, &head.members, Field::Kid)?;
+    let typ = text_member(alloc, &head.members, Field::Typ)?;
+    into_order(head, kid, typ)
 }

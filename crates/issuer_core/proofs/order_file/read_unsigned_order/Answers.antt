@@ -1,45 +1,32 @@
-use Rattle.std.proofs.Common.{arith}
-use Rattle.std.proofs.lemmas.Result.{err_from_is_err_and}
-use Rattle.claim_tree.specs.View.{tree_of}
-use Rattle.file_members.specs.FileForms.{found}
-use Rattle.file_members.specs.FileWords.{field_word}
-use Rattle.file_members.specs.declared.field.Field.TheVariants.{Payload, Decoys}
-use Rattle.issuer_core.proofs.OrderFiles.{value_depth, counts_within}
-use Rattle.issuer_core.proofs.UnsignedOrders.{at_hide, at_decoys, at_kid, at_typ, at_hash}
+use Rattle.std.proofs.Common.{[], take, drop}
+use Rattle.std.proofs.lemmas.Result.{err_from_is_err_and, IfErr-weaker}
+use Rattle.claim_tree.specs.TreeValues.{IsText}
+use Rattle.file_members.specs.FileForms.{optional}
+use Rattle.file_members.specs.declared.field.Field.TheVariants.{Kid, Typ, SdAlg}
+use Rattle.file_members.proofs.FileMembers.{may_say_meets}
+use Rattle.issuer_core.specs.OrderFile.{IsHashText}
+use Rattle.issuer_core.specs.UnsignedOrder.{unsigned_order_table}
+use Rattle.issuer_core.proofs.OrderFaults.{head_refused, behind_head}
 use Rattle.issuer_core.proofs.order_file.read_unsigned_order.Goals as goal
 
-pub into_payload-requires : goal.into_payload-requires
-into_payload-requires c = c.in_ok-need_payload.ensures.there
-
-pub returns-in_err-hide-clause-refused : goal.returns-in_err-hide-clause-refused
-returns-in_err-hide-clause-refused c =
-    let handed = err_from_is_err_and c.from_residual-in_err-hide.result c.from_residual-in_err-hide.ensures.1 in
-    rw (handed.1, handed.2) (at_hide c.args.bytes.now c.in_ok-members.members c.in_ok-members.ensures.ok c.in_ok-need_payload.ensures.there c.in_err-hide.field-0.0 c.in_err-hide.ensures.refused)
-
-pub returns-in_err-decoys-clause-refused : goal.returns-in_err-decoys-clause-refused
-returns-in_err-decoys-clause-refused c =
-    let handed = err_from_is_err_and c.from_residual-in_err-decoys.result c.from_residual-in_err-decoys.ensures.1 in
-    rw (handed.1, handed.2) (at_decoys c.args.bytes.now c.in_ok-members.members c.in_ok-members.ensures.ok c.in_ok-need_payload.ensures.there c.in_ok-hide.hide c.in_ok-hide.ensures.ok c.in_err-decoys.field-0.0 c.in_err-decoys.ensures.refused)
+pub returns-in_err-head-clause-refused : goal.returns-in_err-head-clause-refused
+returns-in_err-head-clause-refused c =
+    let handed = err_from_is_err_and c.from_residual.result c.from_residual.ensures.1 in
+    rw (handed.1, handed.2) (head_refused (drop 3 unsigned_order_table) c.args.bytes.now c.in_err-head.field-0.0 c.in_err-head.ensures.refused)
 
 pub returns-in_err-kid-clause-refused : goal.returns-in_err-kid-clause-refused
 returns-in_err-kid-clause-refused c =
     let handed = err_from_is_err_and c.from_residual-in_err-kid.result c.from_residual-in_err-kid.ensures.1 in
-    rw (handed.1, handed.2) (at_kid c.args.bytes.now c.in_ok-members.members c.in_ok-members.ensures.ok c.in_ok-need_payload.ensures.there c.in_ok-hide.hide c.in_ok-hide.ensures.ok c.in_ok-decoys.decoys c.in_ok-decoys.ensures.ok c.in_err-kid.field-0.0 c.in_err-kid.ensures.refused)
+    rw (handed.1, handed.2) (behind_head [] (optional Kid IsText) (drop 4 unsigned_order_table) c.args.bytes.now c.in_err-kid.field-0.0 c.in_ok-head.head c.in_ok-head.ensures.file c.in_ok-head.ensures.says tt c.in_err-kid.ensures.refused)
 
 pub returns-in_err-typ-clause-refused : goal.returns-in_err-typ-clause-refused
 returns-in_err-typ-clause-refused c =
     let handed = err_from_is_err_and c.from_residual-in_err-typ.result c.from_residual-in_err-typ.ensures.1 in
-    rw (handed.1, handed.2) (at_typ c.args.bytes.now c.in_ok-members.members c.in_ok-members.ensures.ok c.in_ok-need_payload.ensures.there c.in_ok-hide.hide c.in_ok-hide.ensures.ok c.in_ok-decoys.decoys c.in_ok-decoys.ensures.ok c.in_ok-kid.kid c.in_ok-kid.ensures.ok c.in_err-typ.field-0.0 c.in_err-typ.ensures.refused)
+    let kid = may_say_meets IsText Kid c.in_ok-head.head.members c.in_ok-kid.kid c.in_ok-kid.ensures.ok in
+    rw (handed.1, handed.2) (behind_head (take 1 (drop 3 unsigned_order_table)) (optional Typ IsText) (drop 5 unsigned_order_table) c.args.bytes.now c.in_err-typ.field-0.0 c.in_ok-head.head c.in_ok-head.ensures.file c.in_ok-head.ensures.says (kid, tt) c.in_err-typ.ensures.refused)
 
-pub returns-in_err-hash-clause-refused : goal.returns-in_err-hash-clause-refused
-returns-in_err-hash-clause-refused c =
-    let handed = err_from_is_err_and c.from_residual-in_err-hash.result c.from_residual-in_err-hash.ensures.1 in
-    rw (handed.1, handed.2) (at_hash c.args.bytes.now c.in_ok-members.members c.in_ok-members.ensures.ok c.in_ok-need_payload.ensures.there c.in_ok-hide.hide c.in_ok-hide.ensures.ok c.in_ok-decoys.decoys c.in_ok-decoys.ensures.ok c.in_ok-kid.kid c.in_ok-kid.ensures.ok c.in_ok-typ.typ c.in_ok-typ.ensures.ok c.in_err-hash.field-0.0 c.in_err-hash.ensures.refused)
-
-pub returns-clause-depth : goal.returns-clause-depth
-returns-clause-depth c =
-    let deep = c.in_ok-members.ensures.depth in
-    value_depth c.in_ok-members.members (field_word Payload) (tree_of c.into_payload.result) (omega (arith, deep)) c.into_payload.ensures
-
-pub returns-clause-counts : goal.returns-clause-counts
-returns-clause-counts c entry stands = counts_within (found c.in_ok-members.members Decoys) c.in_ok-decoys.decoys entry c.in_ok-decoys.ensures.ok stands
+pub returns-clause-refused : goal.returns-clause-refused
+returns-clause-refused c =
+    let kid = may_say_meets IsText Kid c.in_ok-head.head.members c.in_ok-kid.kid c.in_ok-kid.ensures.ok in
+    let typ = may_say_meets IsText Typ c.in_ok-head.head.members c.in_ok-typ.typ c.in_ok-typ.ensures.ok in
+    IfErr-weaker c.into_order.result _ _ (λ fault. behind_head (take 2 (drop 3 unsigned_order_table)) (optional SdAlg IsHashText) [] c.args.bytes.now fault c.in_ok-head.head c.in_ok-head.ensures.file c.in_ok-head.ensures.says (kid, (typ, tt))) c.into_order.ensures.refused
