@@ -2,8 +2,9 @@ pub mod HeldFacts
 pub mod Picking
 pub mod Steps
 pub mod WholeToken
+pub mod OneObject
+pub mod PresentOrders
 pub mod PresentFiles
-pub mod PresentFaults
 pub mod OnePresentation
 pub mod PickedNumbers
 pub mod OtherRules

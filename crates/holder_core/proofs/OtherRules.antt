@@ -9,7 +9,7 @@ use Rattle.marked_tree.specs.Paths.{Path, chosen}
 use Rattle.selection_core.specs.Consent.{RuleAnswers, Allows, AllAllowed, IsRefusedAt}
 use Rattle.holder_core.specs.Asked.{Asked}
 use Rattle.holder_core.specs.declared.errors.PresentError.{PresentError}
-use Rattle.holder_core.specs.declared.errors.PresentError.TheVariants.{Memory, Token as OnCondition, HasBinding, NoSuchPlace, ConsentRefused, BindingKeyDiffers, SignFailed, TooLong}
+use Rattle.holder_core.specs.declared.errors.PresentError.TheVariants.{ConsentRefused, BindingKeyDiffers, SignFailed, TooLong}
 use Rattle.holder_core.specs.Present.{IsAgreed, IsAnswer, IsNoAnswer, IsPresented, IsNotPresented, no_memory, not_read, refused}
 
 module _ {F G : Type 0} {answers : RuleAnswers F} {rule : F} (others : RuleAnswers G) (other : G) (carries : (at : Path) (b : Bool) → Allows answers rule at b → Allows others other at b) where
@@ -41,14 +41,11 @@ module _ {F G : Type 0} {answers : RuleAnswers F} {rule : F} (others : RuleAnswe
     }
 
     refusal : (e : PresentError) → IsNoAnswer answers rule token asked alg good now e → IsNoAnswer others other token asked alg good now e
-    refusal Memory h = h
-    refusal HasBinding h = h
-    refusal (OnCondition fault) h = h
-    refusal (NoSuchPlace k) h = h
     refusal (ConsentRefused i) h = record { marked = h.marked; held = h.held; there = h.there; refused = refused_at h.marked (chosen h.marked asked.want) i h.refused }
     refusal BindingKeyDiffers h = record { marked = h.marked; agreed = agreed token asked h.marked h.agreed; binding = h.binding; asked_for = h.asked_for; kid = h.kid; named = h.named; differs = h.differs }
     refusal SignFailed h = record { marked = h.marked; agreed = agreed token asked h.marked h.agreed; binding = h.binding; asked_for = h.asked_for; key = h.key }
     refusal TooLong h = record { answer = h.answer; is_answer = answer h.answer h.is_answer; long = h.long }
+    refusal _ h = h
 
 -- the fact comes first, and tells the rule
 pub presented_by : {F G : Type 0} {answers : RuleAnswers F} {rule : F} (content : Text) (asked : Asked) (alg : Text) (good : Meaning) (now : ℕ) (r : Result Parts PresentError)

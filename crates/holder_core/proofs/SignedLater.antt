@@ -1,5 +1,5 @@
 -- From what is presented but for its signature to what is presented with one, and what more good signatures do.
-use Rattle.std.proofs.Common.{◌≡◌, ◌⊎◌, inl, inr, Err, ℕ, ◌<◌, List, Option, Some, None, IfSome, refl, sym, ap, ap₂, subst, ◌∙◌}
+use Rattle.std.proofs.Common.{◌≡◌, ◌⊎◌, inl, inr, ℕ, ◌<◌, List, Option, Some, None, IfSome, Result, Ok, Err, IfOk, IfErr, refl, sym, ap, ap₂, subst, ◌∙◌}
 use Rattle.std.specs.Prelude.{◌++◌, length, codes}
 use Rattle.std.specs.Option.{option_map}
 use Rattle.std.specs.List.{AllByRecursion}
@@ -25,13 +25,13 @@ use Rattle.holder_core.specs.declared.ask.CallerAsk.{CallerAsk}
 use Rattle.holder_core.specs.PresentCalls.{OnTokenFault}
 use Rattle.holder_core.specs.Asked.{Asked, BindingAsked}
 use Rattle.holder_core.specs.declared.errors.PresentError.{PresentError}
-use Rattle.holder_core.specs.declared.errors.PresentError.TheVariants.{Memory, Token as OnCondition, HasBinding, NoSuchPlace, ConsentRefused, BindingKeyDiffers, SignFailed, TooLong}
+use Rattle.holder_core.specs.declared.errors.PresentError.TheVariants.{Memory, Token as OnCondition, HasBinding, SignFailed, TooLong}
 use Rattle.holder_core.specs.declared.presenting.Unbound.{Unbound}
 use Rattle.holder_core.specs.declared.signing.Unsigned.{Unsigned}
 use Rattle.holder_core.specs.declared.signing.Unsigned.TheVariants.{Alone, ToSign}
 use Rattle.holder_core.specs.declared.signing.UnsignedPresentation.{UnsignedPresentation}
 use Rattle.holder_core.specs.Present.{shown_for, NamesKey, IsBoundBy, IsBoundWith, IsBoundAs, IsAnswer, IsNoAnswer, IsPresented, IsNotPresented, no_memory, not_read, refused}
-use Rattle.holder_core.specs.PresentSteps.{IsUnread, IsShown, IsReady, IsUnsignedOf, IsLongAlone, IsUnsigned, IsUnsent}
+use Rattle.holder_core.specs.PresentSteps.{IsUnread, IsShown, IsReady, IsUnsignedOf, IsLongAlone, IsUnsigned, IsAnswered, IsUnsent}
 use Rattle.holder_core.specs.ToSign.{none_good, AreUnsignedWords, IsIssuerAsked, AsksOrNoMemory, IsToSign, IsSentWith, IsSentBy, IsUnsentWith}
 
 payload_shown : (shown : Tree) (payload : Option declared.Tree) (own : declared.Tree) → option_map tree_of payload ≡ Some shown → payload ≡ Some own → tree_of own ≡ shown
@@ -66,14 +66,8 @@ module _ (alg : Text) (less more : Meaning) (all : (head body signature : List �
     }
 
     pub refusal_more : (token : Token) (e : PresentError) → IsNoAnswer answers rule token asked alg less now e → IsNoAnswer answers rule token asked alg more now e
-    refusal_more token Memory h = h
-    refusal_more token HasBinding h = h
-    refusal_more token (OnCondition fault) h = h
-    refusal_more token (NoSuchPlace k) h = h
-    refusal_more token (ConsentRefused i) h = h
-    refusal_more token BindingKeyDiffers h = h
-    refusal_more token SignFailed h = h
     refusal_more token TooLong h = record { answer = h.answer; is_answer = answer_more token h.answer h.is_answer; long = h.long }
+    refusal_more token _ h = h
 
     pub presented_more : (content : Text) (answer : Parts) → IsPresented answers rule content asked alg less now answer → IsPresented answers rule content asked alg more now answer
     presented_more content answer h = record { token = h.token; is_token = h.is_token; is_answer = answer_more h.token answer h.is_answer }
@@ -121,13 +115,8 @@ module _ {F : Type 0} (answers : RuleAnswers F) (rule : F) (token : Token) (aske
 
     pub long_refused : (e : PresentError) → IsLongAlone asked.binding unbound.parts e → IsNoAnswer answers rule token asked alg none_good now e
     long_refused Memory h = tt
-    long_refused (OnCondition fault) h = absurd h
-    long_refused HasBinding h = absurd h
-    long_refused (NoSuchPlace k) h = absurd h
-    long_refused (ConsentRefused i) h = absurd h
-    long_refused BindingKeyDiffers h = absurd h
-    long_refused SignFailed h = absurd h
     long_refused TooLong h = record { answer = unbound.parts; is_answer = unsigned_ready (Alone unbound.parts) (h.0, refl); long = h.1 }
+    long_refused _ h = absurd h
 
   module _ (good : Meaning) (unsigned : UnsignedPresentation) (is : IsToSign answers rule token asked alg now unsigned) where
     module _ (signature : List ℕ) (signed : good unsigned.binding.protected unsigned.binding.payload signature) (answer : Parts) (sent : IsSentWith unsigned signature answer) where
@@ -172,11 +161,6 @@ module _ {F : Type 0} (answers : RuleAnswers F) (rule : F) (token : Token) (aske
 
     pub unsent_refused : (e : PresentError) → IsUnsent unsigned good e → IsNoAnswer answers rule token asked alg good now e
     unsent_refused Memory h = tt
-    unsent_refused (OnCondition fault) h = absurd h
-    unsent_refused HasBinding h = absurd h
-    unsent_refused (NoSuchPlace k) h = absurd h
-    unsent_refused (ConsentRefused i) h = absurd h
-    unsent_refused BindingKeyDiffers h = absurd h
     unsent_refused SignFailed h = record {
       marked = is.marked;
       agreed = is.agreed;
@@ -185,18 +169,14 @@ module _ {F : Type 0} (answers : RuleAnswers F) (rule : F) (token : Token) (aske
       key = subst (λ (b : Option BindingAsked). NamesKey b (shown_for is.marked asked.want)) is.asked_for is.key;
     }
     unsent_refused TooLong h = record { answer = h.0; is_answer = sent_answer h.0 h.1; long = h.2 }
+    unsent_refused _ h = absurd h
 
     -- the same of a signature that a caller made
     pub unsent_with_refused : (signature : List ℕ) → good unsigned.binding.protected unsigned.binding.payload signature → (e : PresentError) → IsUnsentWith unsigned signature e
         → IsNoAnswer answers rule token asked alg good now e
     unsent_with_refused signature signed Memory h = tt
-    unsent_with_refused signature signed (OnCondition fault) h = absurd h
-    unsent_with_refused signature signed HasBinding h = absurd h
-    unsent_with_refused signature signed (NoSuchPlace k) h = absurd h
-    unsent_with_refused signature signed (ConsentRefused i) h = absurd h
-    unsent_with_refused signature signed BindingKeyDiffers h = absurd h
-    unsent_with_refused signature signed SignFailed h = absurd h
     unsent_with_refused signature signed TooLong h = record { answer = h.0; is_answer = signed_answer signature signed h.0 h.1; long = h.2 }
+    unsent_with_refused signature signed _ h = absurd h
 
 -- ---- under other names
 
@@ -216,6 +196,11 @@ module _ {F : Type 0} (answers : RuleAnswers F) (rule : F) (token : Token) (own 
 
     pub refused_answer : (e : PresentError) → IsNoAnswer answers rule token own name none_good now e → IsNoAnswer answers rule token asked alg good now e
     refused_answer e is = refusal_more alg none_good good (λ head body signature none. absurd none) answers rule asked now token e (refused_as e is)
+
+    pub sent_answered : (unsigned : UnsignedPresentation) → IsToSign answers rule token own name now unsigned → (r : Result Parts PresentError) → IfOk r (IsSentBy unsigned good) → IfErr r (IsUnsent unsigned good)
+        → IsAnswered answers rule token asked alg good now r
+    sent_answered unsigned is (Ok answer) sent unsent = sent_answer answers rule token asked alg now good unsigned (to_sign_as unsigned is) answer sent
+    sent_answered unsigned is (Err e) sent unsent = unsent_refused answers rule token asked alg now good unsigned (to_sign_as unsigned is) e unsent
 
 -- ---- what is sent is well formed
 
@@ -237,14 +222,8 @@ sent_words unsigned signature answer words some sent =
 -- the fault of a refusal is the lowest
 pub refused_fault : {F : Type 0} (answers : RuleAnswers F) (rule : F) (token : Token) (asked : Asked) (alg : Text) (good : Meaning) (now : ℕ) (e : PresentError) → IsNoAnswer answers rule token asked alg good now e
     → OnTokenFault e (IsLowest (TokenFails token asked.rules))
-refused_fault answers rule token asked alg good now Memory h = tt
 refused_fault answers rule token asked alg good now (OnCondition fault) h = h.1
-refused_fault answers rule token asked alg good now HasBinding h = tt
-refused_fault answers rule token asked alg good now (NoSuchPlace k) h = tt
-refused_fault answers rule token asked alg good now (ConsentRefused i) h = tt
-refused_fault answers rule token asked alg good now BindingKeyDiffers h = tt
-refused_fault answers rule token asked alg good now SignFailed h = tt
-refused_fault answers rule token asked alg good now TooLong h = tt
+refused_fault answers rule token asked alg good now _ h = tt
 
 -- it is answered, or want of memory
 pub same_refused : {F : Type 0} (answers : RuleAnswers F) (rule : F) (token : Token) (asked : Asked) (alg : Text) (good : Meaning) (now : ℕ) (error : PresentError) → IsNoAnswer answers rule token asked alg good now error
@@ -257,8 +236,4 @@ pub unread_unasked : (text : Text) (ask : CallerAsk) (e : PresentError) → IsUn
 unread_unasked text ask Memory h token is asked = tt
 unread_unasked text ask (OnCondition fault) h token is asked = tokens.not_both text token fault is h
 unread_unasked text ask HasBinding h token is asked = h.2 (subst (λ (t : Token). t.parts.binding ≡ None) (tokens.one text token h.0 is h.1) asked.unbound)
-unread_unasked text ask (NoSuchPlace k) h token is asked = h
-unread_unasked text ask (ConsentRefused i) h token is asked = h
-unread_unasked text ask BindingKeyDiffers h token is asked = h
-unread_unasked text ask SignFailed h token is asked = h
-unread_unasked text ask TooLong h token is asked = h
+unread_unasked text ask _ h token is asked = h

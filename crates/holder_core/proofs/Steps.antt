@@ -1,5 +1,5 @@
 -- From the steps of presenting to what is presented, and why it is not.
-use Rattle.std.proofs.Common.{◌≡◌, ◌≢◌, ◌<◌, ◌⊎◌, inl, inr, arith, Ok, Err, OnOk, ℕ, Bool, true, false, List, Option, Some, None, Result, IfErr, IfSome, refl, sym, ap, subst, ◌∙◌}
+use Rattle.std.proofs.Common.{◌≡◌, ◌≢◌, ◌<◌, ◌⊎◌, inl, inr, arith, Ok, Err, OnOk, ℕ, Bool, true, false, List, Option, Some, None, Result, IfOk, IfErr, IfSome, refl, sym, ap, subst, ◌∙◌}
 use Rattle.std.specs.List.{AllByRecursion}
 use Rattle.std.specs.Option.{option_map, is_some}
 use Rattle.std.specs.Result.{IsErrAnd}
@@ -30,16 +30,17 @@ use Rattle.selection_core.specs.Consent.{RuleAnswers, AllAllowed, IsRefusedAt}
 use Rattle.refusals.specs.declared.fault.Fault.{Fault}
 use Rattle.jws_part.specs.Header.{IsHeaderUnreadable, IsHeaderCritical}
 use Rattle.verifier_core.specs.Asking.{IsEarlyOrSigned}
+use Rattle.verifier_core.proofs.Contents.{content_uncounted}
 use Rattle.verifier_core.specs.Check.{OnFault, IsSigned, IsUncounted}
 use Rattle.verifier_core.specs.Verdict.{Rules, TokenFails}
 use Rattle.verifier_core.specs.declared.token_checking.VerifyError.{VerifyError}
 use Rattle.holder_core.specs.Asked.{Asked}
 use Rattle.holder_core.specs.declared.errors.PresentError.{PresentError}
-use Rattle.holder_core.specs.declared.errors.PresentError.TheVariants.{Memory, Token as OnCondition, HasBinding, NoSuchPlace, ConsentRefused, BindingKeyDiffers, SignFailed, TooLong}
+use Rattle.holder_core.specs.declared.errors.PresentError.TheVariants.{Memory, Token as OnCondition, HasBinding, NoSuchPlace, ConsentRefused, BindingKeyDiffers}
 use Rattle.holder_core.specs.Unchecked.{unchecked}
-use Rattle.holder_core.specs.Present.{picked, shown_for, IsHeld, IsAgreed, NamesKey, IsNoAnswer, IsNotPresented, no_memory, not_read, refused}
+use Rattle.holder_core.specs.Present.{picked, shown_for, IsHeld, IsAgreed, NamesKey, IsNoAnswer, IsPresented, IsNotPresented, no_memory, not_read, refused}
 use Rattle.holder_core.specs.PresentCalls.{IsUnchecked, OnTokenFault, PresentFails, of_file, of_token}
-use Rattle.holder_core.specs.PresentSteps.{IsUnread, IsUnchosen, IsChosen, IsOtherKey, IsShown, IsReady, IsUnready, IsUncheckedOrUnready, IsSignedOrEarly}
+use Rattle.holder_core.specs.PresentSteps.{IsUnread, IsUnchosen, IsChosen, IsOtherKey, IsShown, IsReady, IsUnready, IsUncheckedOrUnready, IsAnswered, IsSignedOrEarly}
 use Rattle.holder_core.specs.declared.presenting.Unbound.{Unbound}
 use Rattle.marked_tree.proofs.PrunedSame.{Same, prune_same}
 use Rattle.holder_core.proofs.Picking.{picked_same, picked_words}
@@ -87,13 +88,9 @@ module _ {F : Type 0} (answers : RuleAnswers F) (rule : F) (token : Token) (aske
   module _ (marked : Marked) (held : IsHeld token asked marked) where
     pub unchosen : (e : PresentError) → IsUnchosen answers rule marked asked.want e → IsUnready answers rule token asked e
     unchosen Memory h = tt
-    unchosen (OnCondition fault) h = absurd h
-    unchosen HasBinding h = absurd h
     unchosen (NoSuchPlace k) h = record { marked = marked; held = held; missing = h }
     unchosen (ConsentRefused i) h = record { marked = marked; held = held; there = h.0; refused = h.1 }
-    unchosen BindingKeyDiffers h = absurd h
-    unchosen SignFailed h = absurd h
-    unchosen TooLong h = absurd h
+    unchosen _ h = absurd h
 
     module _ (marks : List ℕ) (is : IsChosen answers rule marked asked.want marks) where
       agreed : IsAgreed answers rule token asked marked
@@ -104,10 +101,6 @@ module _ {F : Type 0} (answers : RuleAnswers F) (rule : F) (token : Token) (aske
 
       pub other_key : (e : PresentError) → IsOtherKey asked.binding (strip (prune marked (has marks))) e → IsUnready answers rule token asked e
       other_key Memory h = tt
-      other_key (OnCondition fault) h = absurd h
-      other_key HasBinding h = absurd h
-      other_key (NoSuchPlace k) h = absurd h
-      other_key (ConsentRefused i) h = absurd h
       other_key BindingKeyDiffers h = record {
         marked = marked;
         agreed = agreed;
@@ -117,8 +110,7 @@ module _ {F : Type 0} (answers : RuleAnswers F) (rule : F) (token : Token) (aske
         named = h.3;
         differs = subst (λ (p : Tree). holder_kid p ≢ Some h.1) same_shown h.4;
       }
-      other_key SignFailed h = absurd h
-      other_key TooLong h = absurd h
+      other_key _ h = absurd h
 
       pub ready : NamesKey asked.binding (strip (prune marked (has marks))) → (unbound : Unbound) → unbound.parts.signed ≡ token.parts.signed
           → unbound.parts.disclosures ≡ picked (has marks) token.parts.disclosures → unbound.parts.binding ≡ None → IsShown asked.binding (strip (prune marked (has marks))) unbound.payload
@@ -138,22 +130,14 @@ module _ {F : Type 0} (answers : RuleAnswers F) (rule : F) (token : Token) (aske
     pub unchecked_refused : (e : PresentError) → token.parts.binding ≡ None → IsUnchecked token asked.rules e → IsNoAnswer answers rule token asked alg good now e
     unchecked_refused Memory none h = tt
     unchecked_refused (OnCondition fault) none h = (none, h)
-    unchecked_refused HasBinding none h = absurd h
-    unchecked_refused (NoSuchPlace k) none h = absurd h
-    unchecked_refused (ConsentRefused i) none h = absurd h
-    unchecked_refused BindingKeyDiffers none h = absurd h
-    unchecked_refused SignFailed none h = absurd h
-    unchecked_refused TooLong none h = absurd h
+    unchecked_refused _ none h = absurd h
 
     pub unready_refused : (e : PresentError) → IsUnready answers rule token asked e → IsNoAnswer answers rule token asked alg good now e
     unready_refused Memory h = tt
-    unready_refused (OnCondition fault) h = absurd h
-    unready_refused HasBinding h = absurd h
     unready_refused (NoSuchPlace k) h = h
     unready_refused (ConsentRefused i) h = h
     unready_refused BindingKeyDiffers h = h
-    unready_refused SignFailed h = absurd h
-    unready_refused TooLong h = absurd h
+    unready_refused _ h = absurd h
 
     pub unpresented_refused : (e : PresentError) → token.parts.binding ≡ None → IsUncheckedOrUnready answers rule token asked e → IsNoAnswer answers rule token asked alg good now e
     unpresented_refused e none (inl h) = unchecked_refused e none h
@@ -165,11 +149,13 @@ pub unread_refused : {F : Type 0} (answers : RuleAnswers F) (rule : F) (content 
 unread_refused answers rule content asked alg good now Memory h = no_memory refl
 unread_refused answers rule content asked alg good now (OnCondition fault) h = not_read fault refl h
 unread_refused answers rule content asked alg good now HasBinding h = refused h.0 h.1 h.2
-unread_refused answers rule content asked alg good now (NoSuchPlace k) h = absurd h
-unread_refused answers rule content asked alg good now (ConsentRefused i) h = absurd h
-unread_refused answers rule content asked alg good now BindingKeyDiffers h = absurd h
-unread_refused answers rule content asked alg good now SignFailed h = absurd h
-unread_refused answers rule content asked alg good now TooLong h = absurd h
+unread_refused answers rule content asked alg good now _ h = absurd h
+
+-- what is answered of the token of a text is so of the text
+pub text_answered : {F : Type 0} (answers : RuleAnswers F) (rule : F) (content : Text) (token : Token) → IsToken content token → (asked : Asked) (alg : Text) (good : Meaning) (now : ℕ) (r : Result Parts PresentError)
+    → IsAnswered answers rule token asked alg good now r → IfOk r (IsPresented answers rule content asked alg good now) × IfErr r (IsNotPresented answers rule content asked alg good now)
+text_answered answers rule content token is asked alg good now (Ok answer) h = (record { token = token; is_token = is; is_answer = h }, tt)
+text_answered answers rule content token is asked alg good now (Err e) h = (tt, refused token is h)
 
 -- ---- the issuer's signature
 
@@ -177,12 +163,7 @@ unread_refused answers rule content asked alg good now TooLong h = absurd h
 pub signed_or_early : (token : Token) (rules : Rules) → IsSigned token.parts.signed token.outer rules → (e : PresentError) → IsSignedOrEarly token rules e
 signed_or_early token rules signed Memory = tt
 signed_or_early token rules signed (OnCondition fault) = inr signed
-signed_or_early token rules signed HasBinding = signed
-signed_or_early token rules signed (NoSuchPlace k) = signed
-signed_or_early token rules signed (ConsentRefused i) = signed
-signed_or_early token rules signed BindingKeyDiffers = signed
-signed_or_early token rules signed SignFailed = signed
-signed_or_early token rules signed TooLong = signed
+signed_or_early token rules signed _ = signed
 
 pub signed_result : {A : Type 0} (token : Token) (rules : Rules) → IsSigned token.parts.signed token.outer rules → (r : Result A PresentError) → IfErr r (IsSignedOrEarly token rules)
 signed_result token rules signed (Ok a) = tt
@@ -212,6 +193,9 @@ module _ (token : Token) (rules : Rules) (fault : Fault) (l : IsLowest (TokenFai
   header_uncritical critical = not_low Condition.HeaderCritical (omega arith) Nowhere (refl, critical)
 
 -- ---- what is looked up
+
+-- what is so wherever presenting ends, once the token is read
+pub ruleset once_read = (signed_result, content_uncounted)
 
 -- nothing for the text where nothing is for the token
 pub text_uncounted : (content : Text) (asked : Asked) (token : Token) → IsToken content token → (old new : ℕ) → IsUncounted (TokenFails token asked.rules) old new → IsUncounted (PresentFails content asked) old new

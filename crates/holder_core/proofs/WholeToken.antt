@@ -23,7 +23,7 @@ use Rattle.verifier_core.specs.Verdicts.{IsCheckedAs}
 use Rattle.verifier_core.proofs.ContentFacts.{content_sound, content_readable}
 use Rattle.holder_core.specs.Asked.{Asked, BindingAsked}
 use Rattle.holder_core.specs.declared.errors.PresentError.{PresentError}
-use Rattle.holder_core.specs.declared.errors.PresentError.TheVariants.{Memory, Token as OnCondition, HasBinding, NoSuchPlace, ConsentRefused, BindingKeyDiffers, SignFailed, TooLong}
+use Rattle.holder_core.specs.declared.errors.PresentError.TheVariants.{Memory, NoSuchPlace, BindingKeyDiffers}
 use Rattle.holder_core.specs.Present.{IsHeld, NamesKey}
 use Rattle.holder_core.specs.PresentSteps.{IsChosen, IsOtherKey, IsShown, IsReady, IsUnready, IsWholeReady, IsWholeUnready}
 use Rattle.holder_core.specs.declared.presenting.Unbound.{Unbound}
@@ -107,14 +107,10 @@ module _ {F : Type 0} (answers : RuleAnswers F) (rule : F) (token : Token) (aske
 
   pub whole_unready : (e : PresentError) → IsWholeUnready asked payload e → IsUnready answers rule token asked e
   whole_unready Memory h = tt
-  whole_unready (OnCondition fault) h = absurd h
-  whole_unready HasBinding h = absurd h
   whole_unready (NoSuchPlace k) h = unchosen answers rule token asked is.0 held (NoSuchPlace k) (subst (λ (t : Tree). IsLeast (IsMissing t asked.want) k) is.2 h)
-  whole_unready (ConsentRefused i) h = absurd h
   whole_unready BindingKeyDiffers h =
       other_key answers rule token asked is.0 held [] (nothing h.0) BindingKeyDiffers (subst (λ (t : Tree). IsOtherKey asked.binding t BindingKeyDiffers) same_shown h.1)
-  whole_unready SignFailed h = absurd h
-  whole_unready TooLong h = absurd h
+  whole_unready _ h = absurd h
 
 -- ---- the wanted places
 
@@ -138,13 +134,8 @@ some_told f o p x y told is same = let both : Some (f x) ≡ Some y = ap (option
 
 pub other_named : (asked : Asked) (payload : Tree) → AtNone (IsMissing payload asked.want) → (e : PresentError) → IsOtherKey asked.binding payload e → IsWholeUnready asked payload e
 other_named asked payload there Memory h = tt
-other_named asked payload there (OnCondition fault) h = absurd h
-other_named asked payload there HasBinding h = absurd h
-other_named asked payload there (NoSuchPlace k) h = absurd h
-other_named asked payload there (ConsentRefused i) h = absurd h
 other_named asked payload there BindingKeyDiffers h = (there, h)
-other_named asked payload there SignFailed h = absurd h
-other_named asked payload there TooLong h = absurd h
+other_named asked payload there _ h = absurd h
 
 -- ---- what is shown
 

@@ -1,10 +1,10 @@
 -- For private functions: the steps of presenting.
-use Rattle.std.specs.Prelude.{◌≡◌, ◌≢◌, ◌<◌, ◌≤◌, ◌⊎◌, ℕ, List, [], length, Option, None, Some, option_map}
+use Rattle.std.specs.Prelude.{◌≡◌, ◌≢◌, ◌<◌, ◌≤◌, ◌-◌, ◌^◌, ◌⊎◌, ℕ, List, [], length, Option, None, Some, Result, Ok, Err, option_map}
 use Rattle.claim_tree.specs.Tree.{Text, Tree}
 use Rattle.claim_tree.specs.View.{tree_of}
 use Rattle.claim_tree.specs.declared.tree.Tree as declared
 use Rattle.sd_outside.specs.Lists.{IsLeast, AtNone}
-use Rattle.compact_form.specs.Compact.{compact, hashed}
+use Rattle.compact_form.specs.Compact.{AreWords, compact, hashed}
 use Rattle.sd_outside.specs.Limits.{compact_max}
 use Rattle.compact_form.specs.declared.parts.JwtParts.{JwtParts}
 use Rattle.compact_form.specs.declared.parts.Parts.{Parts}
@@ -33,7 +33,7 @@ use Rattle.holder_core.specs.declared.signing.Presentation.TheVariants.{AsksIssu
 use Rattle.holder_core.specs.declared.signing.Unsigned.{Unsigned}
 use Rattle.holder_core.specs.declared.signing.Unsigned.TheVariants.{Alone, ToSign}
 use Rattle.holder_core.specs.declared.signing.UnsignedPresentation.{UnsignedPresentation}
-use Rattle.holder_core.specs.Present.{shown_for, IsAgreed, NamesKey, PicksParts, IsWantedNotThere, IsConsentRefused, IsBindingKeyOther, IsAnswer}
+use Rattle.holder_core.specs.Present.{shown_for, IsAgreed, NamesKey, PicksParts, IsWantedNotThere, IsConsentRefused, IsBindingKeyOther, IsAnswer, IsNoAnswer}
 use Rattle.holder_core.specs.PresentCalls.{IsUnchecked}
 use Rattle.holder_core.specs.ToSign.{none_good, IsIssuerAsked, IsToSign, IsSentBy, IsUnsignedFor}
 
@@ -43,6 +43,12 @@ IsUnread content Memory = Unit {0}
 IsUnread content (OnCondition fault) = file.IsTextRefused content fault
 IsUnread content HasBinding = (token : Token) × IsToken content token × (token.parts.binding ≢ None)
 IsUnread content _ = ⊥
+
+-- a token that was read and has no key binding token
+pub record IsUnboundToken (token : Token) : Type 0 where
+  pub few : length token.parts.disclosures < 2 ^ 32 - 1
+  pub words : AreWords token.parts
+  pub unbound : token.parts.binding ≡ None
 
 -- these are the marks that lead to the wanted places, which are there, and the rule may allow them
 pub record IsChosen {F : Type 0} (answers : RuleAnswers F) (rule : F) (m : Marked)
@@ -135,6 +141,14 @@ IsUnsigned answers rule token asked alg now (ToSign unsigned) =
 abbrev pub OnUnsigned : Unsigned → (Parts → Type 0) → (UnsignedPresentation → Type 0) → Type 0
 OnUnsigned (Alone parts) P Q = P parts
 OnUnsigned (ToSign unsigned) P Q = Q unsigned
+
+-- the token is presented as it is asked, or refused
+abbrev pub IsAnswered : {F : Type 0} → RuleAnswers F → F → Token → Asked → Text → Meaning → ℕ
+    → Result Parts PresentError → Type 0
+IsAnswered answers rule token asked alg good now (Ok answer) =
+    IsAnswer answers rule token asked alg good now answer
+IsAnswered answers rule token asked alg good now (Err error) =
+    IsNoAnswer answers rule token asked alg good now error
 
 -- it is not too long
 abbrev pub IsShort : Parts → Type 0

@@ -127,7 +127,7 @@ fn binding_member(alloc: Global, members: &TreeMap) -> Result<Option<BindingOrde
 /// empty. `binding` is an object of just `key`, the base64url text of at least 32
 /// bytes, `kid`, a text, and `aud` and `nonce`, texts of at most 256 bytes; where
 /// it is missing, no key binding token is asked for. Another member is a fault.
-#[tactic(auto, using(crate::proofs::PresentFaults::refused_at))]
+#[tactic(auto, using(crate::proofs::PresentOrders::refused_at))]
 pub fn read_present(alloc: Global, bytes: &[u8]) -> Result<PresentFile, FileFault>
     ensures ok { IfOk result (IsPresentFile bytes.now) }
     ensures refused { IfErr result (IsPresentFileRefused bytes.now) }
@@ -249,7 +249,7 @@ fn caller_binding_member(
 /// signatures that the caller checks. `binding` is an object of just `alg`, the name of the
 /// algorithm by which the caller signs, which is not empty and not `none`, of `aud` and `nonce`,
 /// and of `kid` where the claim `cnf` has to tell this name.
-#[tactic(auto, using(crate::proofs::UnsignedPresents::refused_at))]
+#[tactic(auto, using(crate::proofs::PresentOrders::refused_at))]
 pub fn read_unsigned_present(alloc: Global, bytes: &[u8]) -> Result<UnsignedPresentFile, FileFault>
     ensures ok { IfOk result (IsUnsignedPresentFile bytes.now) }
     ensures refused { IfErr result (IsUnsignedPresentRefused bytes.now) }

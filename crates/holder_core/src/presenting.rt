@@ -17,9 +17,9 @@ ghost use Rattle.verifier_core.specs.Verdict.{TokenFails, HasHash, asked as aske
 ghost use Rattle.verifier_core.specs.Check.{OnFault, IsUnopened, IsContent, IsSigned, IsCounted, IsCountedWithin, IsReadWithin, IsUncounted};
 ghost use Rattle.holder_core.specs.Asked.{held_rules, asked_by};
 ghost use Rattle.holder_core.specs.AskedSeen.{binding_seen};
-ghost use Rattle.holder_core.specs.Present.{picked, IsHeld, IsAnswer, IsNoAnswer, IsPresented, IsNotPresented, NamesKey};
+ghost use Rattle.holder_core.specs.Present.{picked, IsHeld, IsPresented, IsNotPresented, NamesKey};
 ghost use Rattle.holder_core.specs.PresentCalls.{IsUnchecked, OnTokenFault, PresentFails};
-ghost use Rattle.holder_core.specs.PresentSteps.{IsUnread, IsUnchosen, IsChosen, IsOtherKey, IsShown, IsReady, IsUnready, IsMadeReady, IsUncheckedOrUnready, IsSignedOrEarly};
+ghost use Rattle.holder_core.specs.PresentSteps.{IsUnread, IsUnboundToken, IsUnchosen, IsChosen, IsOtherKey, IsShown, IsReady, IsUnready, IsMadeReady, IsUncheckedOrUnready, IsAnswered, IsShort, IsSignedOrEarly};
 ghost use Rattle.holder_core.specs.declared.errors.PresentError.{PresentError};
 
 use crate::asked::{Asked, AskedBinding};
@@ -90,8 +90,7 @@ pub fn present<S: Signer, F: Fn(&Path) -> bool>(
 // The token of a text, which has no key binding token.
 pub(crate) fn read_unbound<'a>(alloc: Global, text: &'a [u8]) -> Result<TokenText<'a>, PresentError>
     ensures token { IfOk result (IsToken text.now) }
-    ensures words { IfOk result (λ token. AreWords token.parts) }
-    ensures unbound { IfOk result (λ token. token.parts.binding ≡ None) }
+    ensures unbound { IfOk result IsUnboundToken }
     ensures refused { IfErr result (IsUnread text.now) }
 {
     let token = match TokenText::read(alloc, text) {
@@ -115,18 +114,12 @@ fn present_token<S: Signer, F: Fn(&Path) -> bool>(
     now: u64,
     steps: &mut Steps,
 ) -> Result<Parts, PresentError>
-    requires few { length token.now.parts.disclosures < 2 ^ 32 - 1 }
-    requires words { AreWords token.now.parts }
-    requires unbound { token.now.parts.binding ≡ None }
+    requires unbound { IsUnboundToken token.now }
     requires callable { F.IsAlwaysCallable consent.now }
-    ensures answer { IfOk result
-        (IsAnswer F.Fn consent.now token.now (asked_by ask.now) (S.alg_name_of signer.old)
-        (S.good signer.old) now) }
+    ensures answer { IsAnswered F.Fn consent.now token.now (asked_by ask.now)
+        (S.alg_name_of signer.old) (S.good signer.old) now result }
     ensures words { IfOk result AreWords }
-    ensures short { IfOk result (λ answer. length (compact_text answer) ≤ compact_max) }
-    ensures refused { IfErr result
-        (IsNoAnswer F.Fn consent.now token.now (asked_by ask.now) (S.alg_name_of signer.old)
-        (S.good signer.old) now) }
+    ensures short { IfOk result IsShort }
     ensures failed { IsErrOf result PresentError.SignFailed
         → Rose (S.faults signer.old) (S.faults signer.new) }
     ensures unasked { ask.now.binding ≡ None → signer.new ≡ signer.old }
@@ -158,6 +151,7 @@ pub(crate) struct Unbound {
 
 // The token with the disclosures that are asked for, if nothing is refused, and
 // the algorithm of its digests.
+#[tactic(auto, using(crate::proofs::Steps::once_read))]
 pub(crate) fn unbound_parts<F: Fn(&Path) -> bool>(
     alloc: Global,
     token: &TokenView<'_>,
@@ -165,9 +159,7 @@ pub(crate) fn unbound_parts<F: Fn(&Path) -> bool>(
     consent: &Consent<F>,
     steps: &mut Steps,
 ) -> Result<(Unbound, HashAlg), PresentError>
-    requires few { length token.now.parts.disclosures < 2 ^ 32 - 1 }
-    requires words { AreWords token.now.parts }
-    requires unbound { token.now.parts.binding ≡ None }
+    requires unbound { IsUnboundToken token.now }
     requires callable { F.IsAlwaysCallable consent.now }
     ensures ready { IfOk result (λ r. IsMadeReady F.Fn consent.now token.now asked.now r.0) }
     ensures words { IfOk result (λ r. AreWords r.0.parts) }

@@ -1,5 +1,5 @@
 // Presenting in two steps, where the caller checks the issuer's signature and makes the holder's.
-ghost use Rattle.std.specs.Prelude.{◌≡◌, ◌⊎◌, ◌<◌, ◌-◌, ◌^◌, true, None, length, option_map, IfOk, OnOk, IfErr, IsErrOf};
+ghost use Rattle.std.specs.Prelude.{◌≡◌, ◌⊎◌, ◌<◌, true, None, length, option_map, IfOk, OnOk, IfErr, IsErrOf};
 ghost use Rattle.std.specs.Option.{is_some};
 ghost use Rattle.sd_outside.specs.Causes.{Rose};
 ghost use Rattle.sd_outside.specs.Limits.{compact_max};
@@ -15,7 +15,7 @@ ghost use Rattle.holder_core.specs.Asked.{asked_by_caller, alg_asked, caller_rul
 ghost use Rattle.holder_core.specs.AskedSeen.{binding_seen};
 ghost use Rattle.holder_core.specs.Present.{IsAnswer, IsNoAnswer, IsPresented, IsNotPresented};
 ghost use Rattle.holder_core.specs.PresentCalls.{OnTokenFault};
-ghost use Rattle.holder_core.specs.PresentSteps.{IsShort, IsUnsigned, IsUnsignedOf, IsLongAlone, IsWithBinding, IsUnsent, OnUnsigned, IsSignedOrEarly, AsksOf};
+ghost use Rattle.holder_core.specs.PresentSteps.{IsUnboundToken, IsShort, IsUnsigned, IsUnsignedOf, IsLongAlone, IsWithBinding, IsUnsent, OnUnsigned, IsSignedOrEarly, AsksOf};
 ghost use Rattle.holder_core.specs.ToSign.{none_good, AreUnsignedWords, IsIssuerAsked, AsksIssuer, IsToSign, IsToPresent, IsSentWith, IsSentBy, IsUnsentWith, OnAsksIssuer, OnToSign, OnPresented, AsksOrNoMemory};
 ghost use Rattle.holder_core.specs.declared.errors.PresentError.{PresentError};
 
@@ -181,9 +181,7 @@ pub(crate) fn unsigned_parts<F: Fn(&Path) -> bool>(
     now: u64,
     steps: &mut Steps,
 ) -> Result<Unsigned, PresentError>
-    requires few { length token.now.parts.disclosures < 2 ^ 32 - 1 }
-    requires words { AreWords token.now.parts }
-    requires unbound { token.now.parts.binding ≡ None }
+    requires unbound { IsUnboundToken token.now }
     requires callable { F.IsAlwaysCallable consent.now }
     ensures unsigned { IfOk result (IsUnsigned F.Fn consent.now token.now asked.now alg.now now) }
     ensures words { IfOk result (λ unsigned. OnUnsigned unsigned AreWords AreUnsignedWords) }
@@ -259,9 +257,7 @@ fn present_token<F: Fn(&Path) -> bool>(
     now: u64,
     steps: &mut Steps,
 ) -> Result<Presentation, PresentError>
-    requires few { length token.now.parts.disclosures < 2 ^ 32 - 1 }
-    requires words { AreWords token.now.parts }
-    requires unbound { token.now.parts.binding ≡ None }
+    requires unbound { IsUnboundToken token.now }
     requires callable { F.IsAlwaysCallable consent.now }
     ensures asks { IfOk result (λ p. OnAsksIssuer p (λ _. AsksOf token.now ask.now answer p)) }
     ensures asked { answer ≡ None → IsIssuerAsked ask.now token.now → AsksOrNoMemory result }

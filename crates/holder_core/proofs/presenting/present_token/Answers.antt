@@ -1,9 +1,8 @@
 use Rattle.std.proofs.Common.{subst}
-use Rattle.std.proofs.lemmas.Result.{IfOk-weaker, IfErr-weaker}
 use Rattle.holder_core.specs.Asked.{asked_by}
 use Rattle.holder_core.specs.PresentSteps.{IsUnsigned}
 use Rattle.holder_core.specs.declared.signing.Unsigned.{Unsigned}
-use Rattle.holder_core.proofs.SignedLater.{to_sign_as, alone_answer, refused_answer, sent_answer, unsent_refused}
+use Rattle.holder_core.proofs.SignedLater.{alone_answer, refused_answer, sent_answered}
 use Rattle.holder_core.proofs.presenting.present_token.Goals as goal
 
 pub returns-in-Ok-Alone-clause-answer : goal.returns-in-Ok-Alone-clause-answer
@@ -14,23 +13,11 @@ returns-in-Ok-Alone-clause-answer g c =
 
 pub returns-in-Ok-ToSign-clause-answer : goal.returns-in-Ok-ToSign-clause-answer
 returns-in-Ok-ToSign-clause-answer g c =
-    let alg = g.S.Signer.alg_name_of c.args.signer.now in
-    let ask = asked_by c.args.ask.now in
-    let unsigned = c.in-Ok-ToSign.unsigned in
-    let told = subst (λ (u : Unsigned). IsUnsigned g.F.Fn c.args.consent.now c.args.token.now c.by_keys-asked.result c.alg_name.result.now c.args.now u) c.in-Ok-ToSign.field-0-is c.in-Ok-ToSign.ensures.unsigned in
-    let is = to_sign_as g.F.Fn c.args.consent.now c.args.token.now c.by_keys-asked.result ask c.by_keys-asked.ensures c.alg_name.result.now alg c.alg_name.ensures c.args.now unsigned told in
-    IfOk-weaker c.sign.result _ _ (sent_answer g.F.Fn c.args.consent.now c.args.token.now ask alg c.args.now (g.S.Signatures.good c.args.signer.now) unsigned is) c.sign.ensures.sent
+    sent_answered g.F.Fn c.args.consent.now c.args.token.now c.by_keys-asked.result (asked_by c.args.ask.now) c.by_keys-asked.ensures c.alg_name.result.now (g.S.Signer.alg_name_of c.args.signer.now) c.alg_name.ensures c.args.now
+    (g.S.Signatures.good c.args.signer.now) c.in-Ok-ToSign.unsigned
+    (subst (λ (u : Unsigned). IsUnsigned g.F.Fn c.args.consent.now c.args.token.now c.by_keys-asked.result c.alg_name.result.now c.args.now u) c.in-Ok-ToSign.field-0-is c.in-Ok-ToSign.ensures.unsigned) c.sign.result c.sign.ensures.sent c.sign.ensures.refused
 
-pub returns-in-Ok-ToSign-clause-refused : goal.returns-in-Ok-ToSign-clause-refused
-returns-in-Ok-ToSign-clause-refused g c =
-    let alg = g.S.Signer.alg_name_of c.args.signer.now in
-    let ask = asked_by c.args.ask.now in
-    let unsigned = c.in-Ok-ToSign.unsigned in
-    let told = subst (λ (u : Unsigned). IsUnsigned g.F.Fn c.args.consent.now c.args.token.now c.by_keys-asked.result c.alg_name.result.now c.args.now u) c.in-Ok-ToSign.field-0-is c.in-Ok-ToSign.ensures.unsigned in
-    let is = to_sign_as g.F.Fn c.args.consent.now c.args.token.now c.by_keys-asked.result ask c.by_keys-asked.ensures c.alg_name.result.now alg c.alg_name.ensures c.args.now unsigned told in
-    IfErr-weaker c.sign.result _ _ (unsent_refused g.F.Fn c.args.consent.now c.args.token.now ask alg c.args.now (g.S.Signatures.good c.args.signer.now) unsigned is) c.sign.ensures.refused
-
-pub returns-clause-refused : goal.returns-clause-refused
-returns-clause-refused g c =
+pub returns-clause-answer : goal.returns-clause-answer
+returns-clause-answer g c =
     refused_answer g.F.Fn c.args.consent.now c.args.token.now c.by_keys-asked.result (asked_by c.args.ask.now) c.by_keys-asked.ensures c.alg_name.result.now (g.S.Signer.alg_name_of c.args.signer.now) c.alg_name.ensures c.args.now
     (g.S.Signatures.good c.args.signer.now) c.in-Err-unsigned_parts.error c.in-Err-unsigned_parts.ensures.refused

@@ -2,7 +2,6 @@ use Rattle.std.proofs.Common.{sym, subst}
 use Rattle.std.proofs.lemmas.Result.{IfErr-weaker}
 use Rattle.json_form.specs.Token.{IsToken}
 use Rattle.json_form.proofs.Tokens as tokens
-use Rattle.verifier_core.proofs.Verdicts.{few}
 use Rattle.holder_core.specs.Asked.{asked_by_caller, alg_asked}
 use Rattle.holder_core.specs.Present.{refused}
 use Rattle.holder_core.specs.ToSign.{none_good, IsIssuerAsked}
@@ -16,9 +15,6 @@ returns-in-Err-clause-asked g c none = unread_unasked c.args.text.now c.args.ask
 pub returns-in-Err-clause-refused : goal.returns-in-Err-clause-refused
 returns-in-Err-clause-refused g c =
     unread_refused g.F.Fn c.args.consent.now c.args.text.now (asked_by_caller c.args.ask.now c.args.answer) (alg_asked c.args.ask.now.binding) none_good c.args.now c.in-Err.error c.in-Err.ensures.refused
-
-pub present_token-requires-clause-few : goal.present_token-requires-clause-few
-present_token-requires-clause-few g c = few c.args.text.now c.view.result (subst (IsToken c.args.text.now) (sym c.view.ensures) c.in-Ok.ensures.token)
 
 pub returns-clause-asked : goal.returns-clause-asked
 returns-clause-asked g c none token is asked =
