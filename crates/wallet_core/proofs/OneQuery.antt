@@ -1,24 +1,22 @@
 -- A file says one query, or is refused.
-use Rattle.std.proofs.Common.{◌≡◌, ◌≢◌, List, [], refl, sym, ap, subst, ◌∙◌, codes}
+use Rattle.std.proofs.Common.{◌≡◌, ◌≢◌, [], refl, sym, ap, ◌∙◌, codes}
 use Rattle.sd_outside.specs.Limits.{file_max}
 use Rattle.claim_tree.specs.Tree as spec
-use Rattle.claim_tree.specs.Tree.{Text, null, flag, whole, text, leaf, array, object, member_named}
+use Rattle.claim_tree.specs.Tree.{Text, null, flag, whole, text, leaf, array, object}
 use Rattle.claim_tree.specs.View.{tree_of}
-use Rattle.claim_tree.specs.TreeValues.{Says, SaysOr, IsListOf, IsPointer}
-use Rattle.file_members.specs.FileForms.{found}
+use Rattle.claim_tree.specs.TreeValues.{IsListOf, IsPointer}
+use Rattle.claim_tree.specs.declared.tree.Tree as code
+use Rattle.claim_tree.proofs.TreeValues.{SaysOne}
+use Rattle.claim_tree.proofs.ListForms.{one_pointer}
+use Rattle.file_members.specs.FileWords.{field_word}
 use Rattle.file_members.specs.declared.field.Field.TheVariants.{Keys, Want, Equal, Never}
 use Rattle.file_members.specs.declared.file_fault.FileFault.{FileFault}
-use Rattle.claim_tree.specs.declared.tree.Tree as code
 use Rattle.file_members.proofs.FileMembers.{says_meets, says_or_meets}
-use Rattle.claim_tree.proofs.TreeValues as values
 use Rattle.file_members.proofs.FileVerdicts as verdicts
-use Rattle.claim_tree.proofs.TreeValues.{SaysOne}
-use Rattle.claim_tree.proofs.ListForms.{one_list, one_pointer}
 use Rattle.hmac_sign.specs.Keys.{IsKeySet}
-use Rattle.hmac_sign.specs.declared.key_set.NamedKey.{NamedKey}
 use Rattle.hmac_sign.proofs.KeySetVerdicts.{one_key_set}
+use Rattle.holder_core.proofs.OneObject.{one_members, one_said, one_listed}
 use Rattle.wallet_core.specs.QueryFile.{IsPlain, IsEqual, query_table, IsQueryFile, IsQueryFileRefused}
-use Rattle.wallet_core.specs.declared.query.Equal as query
 use Rattle.wallet_core.specs.declared.query_file.QueryFile.{QueryFile}
 
 -- ---- plain values
@@ -47,35 +45,21 @@ one_plain t x y h k =
 
 -- ---- the values that are asked for
 
-equal_made : List Text → code.Tree → query.Equal
-equal_made at value = record { at = at; value = value }
-
 one_equal : SaysOne IsEqual
-unfolding equal_made
 one_equal t d e h k =
-    let both : object h.members ≡ object k.members = sym h.is ∙ k.is in
-    let same : h.members ≡ k.members = cc both in
-    let at : d.at ≡ e.at = values.says_one IsPointer (member_named k.members (codes "at")) d.at e.at one_pointer (subst (λ ns. Says IsPointer (member_named ns (codes "at")) d.at) same h.at) k.at in
-    let value : d.value ≡ e.value = values.says_one IsPlain (member_named k.members (codes "value")) d.value e.value one_plain (subst (λ ns. Says IsPlain (member_named ns (codes "value")) d.value) same h.value) k.value in
-    ap (λ x. equal_made x d.value) at ∙ ap (λ x. equal_made e.at x) value
+    let same = one_members t h.members k.members h.is k.is in
+    λ i. record { at = one_said IsPointer one_pointer same (codes "at") d.at e.at h.at k.at i; value = one_said IsPlain one_plain same (codes "value") d.value e.value h.value k.value i }
 
 -- ---- the file
 
-made : List NamedKey → List (List Text) → List query.Equal → List (List Text) → QueryFile
-made keys want equal never = record { query = record { keys = keys; want = want; equal = equal }; never = never }
-
 pub one_query : (bytes : Text) (p q : QueryFile) → IsQueryFile bytes p → IsQueryFile bytes q → p ≡ q
-unfolding made
 one_query bytes p q h k =
-    let same : h.members ≡ k.members = verdicts.one_object file_max bytes h.members k.members h.file.object k.file.object in
-    let ms = k.members in
-    let keys : p.query.keys ≡ q.query.keys = values.says_one IsKeySet (found ms Keys) p.query.keys q.query.keys one_key_set (subst (λ ns. Says IsKeySet (found ns Keys) p.query.keys) same h.keys) k.keys in
-    let want : p.query.want ≡ q.query.want = values.says_or_one (IsListOf IsPointer) [] (found ms Want) p.query.want q.query.want (one_list IsPointer one_pointer) (subst (λ ns. SaysOr (IsListOf IsPointer) [] (found ns Want) p.query.want) same h.want) k.want in
-    let equal : p.query.equal ≡ q.query.equal = values.says_or_one (IsListOf IsEqual) [] (found ms Equal) p.query.equal q.query.equal (one_list IsEqual one_equal) (subst (λ ns. SaysOr (IsListOf IsEqual) [] (found ns Equal) p.query.equal) same h.equal) k.equal in
-    let never : p.never ≡ q.never = values.says_or_one (IsListOf IsPointer) [] (found ms Never) p.never q.never (one_list IsPointer one_pointer) (subst (λ ns. SaysOr (IsListOf IsPointer) [] (found ns Never) p.never) same h.never) k.never in
-    ap (λ x. made x p.query.want p.query.equal p.never) keys
-    ∙ (ap (λ x. made q.query.keys x p.query.equal p.never) want
-    ∙ (ap (λ x. made q.query.keys q.query.want x p.never) equal ∙ ap (λ x. made q.query.keys q.query.want q.query.equal x) never))
+    let same = verdicts.one_object file_max bytes h.members k.members h.file.object k.file.object in
+    let keys = one_said IsKeySet one_key_set same (field_word Keys) p.query.keys q.query.keys h.keys k.keys in
+    let want = one_listed IsPointer one_pointer same (field_word Want) p.query.want q.query.want h.want k.want in
+    let equal = one_listed IsEqual one_equal same (field_word Equal) p.query.equal q.query.equal h.equal k.equal in
+    let never = one_listed IsPointer one_pointer same (field_word Never) p.never q.never h.never k.never in
+    λ i. record { query = record { keys = keys i; want = want i; equal = equal i }; never = never i }
 
 pub not_both : (bytes : Text) (said : QueryFile) (fault : FileFault) → IsQueryFile bytes said → IsQueryFileRefused bytes fault → fault ≡ FileFault.Memory
 not_both bytes said fault says refused =
