@@ -3,7 +3,7 @@
 
 use claim_tree::write;
 use digest_index::Steps;
-use key_binding::SignatureAnswer;
+use key_binding::SignatureAnswer::{Bad, Good, Unknown};
 use sd_outside::{TextBox, TextList};
 use std::alloc::Global;
 use std::test::Fail;
@@ -69,103 +69,59 @@ fn judged(alloc: Global, file: &str, holder_alg: &str, answers: Answers) -> Resu
 const CLAIMS: &str =
     r#"{"address":{"country":"US","locality":"Anytown","region":"Anystate","street_address":"123 Main St"},"cnf":{"jwk":{"crv":"P-256","kty":"EC","x":"TCAER19Zvu3OHF4j4W4vfSVoHIP1ILilDls7vCeGemc","y":"ZxjiWWbZMQGHVWKVQ4hbSIirsVfuecCE6t4jT9F2HZQ"}},"exp":1883000000,"family_name":"Doe","given_name":"John","iat":1683000000,"iss":"https://issuer.example.com","nationalities":["US"],"sub":"user_42"}"#;
 
-fn told_claims(alloc: Global, before: &str) -> Result<TextBox, Fail> {
-    told(alloc, before, CLAIMS)
-}
-
 // What is told after each answer that is given when it is asked for.
 #[test]
 fn the_caller_is_asked_for_each_signature(rt: HostRuntime) -> Result<(), Fail> {
     let alloc = rt.alloc();
-    let issuer = judged(alloc, BOUND, "ES256", Answers::Nothing)?;
-    assert_eq!(rt; issuer.as_str(), "asks issuer ES256 64 1099");
-    let holder = judged(
-        alloc,
-        BOUND,
-        "ES256",
-        Answers::Issuer(SignatureAnswer::Good),
-    )?;
-    assert_eq!(rt;
-        holder.as_str(),
-        told_claims(alloc, "asks holder ES256 64 231")?.as_str()
-    );
-    let accepted = judged(
-        alloc,
-        BOUND,
-        "ES256",
-        Answers::Holder(SignatureAnswer::Good),
-    )?;
-    assert_eq!(rt; accepted.as_str(), told_claims(alloc, "accepted")?.as_str());
+    for (answers, wanted) in [
+        (
+            Answers::Nothing,
+            TextBox::make(alloc, "asks issuer ES256 64 1099")?,
+        ),
+        (
+            Answers::Issuer(Good),
+            told(alloc, "asks holder ES256 64 231", CLAIMS)?,
+        ),
+        (Answers::Holder(Good), told(alloc, "accepted", CLAIMS)?),
+    ] {
+        let found = judged(alloc, BOUND, "ES256", answers)?;
+        assert_eq!(rt; found.as_str(), wanted.as_str());
+    }
     Ok(())
 }
 
-// A file, the algorithm of the holder, what is said, and what is told.
-const TOLD: [(&str, &str, Answers, &str); 9] = [
-    (
-        UNBOUND,
-        "ES256",
-        Answers::Nothing,
-        "asks issuer ES256 64 1099",
-    ),
-    (
-        UNBOUND,
-        "ES256",
-        Answers::Issuer(SignatureAnswer::Bad),
-        "refused 10 badSignature",
-    ),
-    (
-        UNBOUND,
-        "ES256",
-        Answers::Issuer(SignatureAnswer::Unknown),
-        "refused 9 issuerKeyUnknown",
-    ),
-    (
-        UNBOUND,
-        "ES256",
-        Answers::Holder(SignatureAnswer::Good),
-        "not asked",
-    ),
-    (
-        BOUND,
-        "ES256",
-        Answers::Holder(SignatureAnswer::Bad),
-        "refused 30 bindingSignature",
-    ),
-    (
-        BOUND,
-        "ES256",
-        Answers::Holder(SignatureAnswer::Unknown),
-        "refused 27 holderKeyUnknown",
-    ),
-    (
-        BOUND,
-        "ES384",
-        Answers::Issuer(SignatureAnswer::Good),
-        "refused 29 bindingAlg",
-    ),
-    (
-        BOUND,
-        "ES384",
-        Answers::Holder(SignatureAnswer::Good),
-        "not asked",
-    ),
-    (
-        BOUND,
-        "ES256",
-        Answers::Issuer(SignatureAnswer::Bad),
-        "refused 10 badSignature",
-    ),
+// What is told of what is said, where no binding is asked for, where one is, and where the holder's
+// algorithm is another.
+const UNBOUND_TOLD: [(Answers, &str); 4] = [
+    (Answers::Nothing, "asks issuer ES256 64 1099"),
+    (Answers::Issuer(Bad), "refused 10 badSignature"),
+    (Answers::Issuer(Unknown), "refused 9 issuerKeyUnknown"),
+    (Answers::Holder(Good), "not asked"),
+];
+
+const BOUND_TOLD: [(Answers, &str); 3] = [
+    (Answers::Issuer(Bad), "refused 10 badSignature"),
+    (Answers::Holder(Bad), "refused 30 bindingSignature"),
+    (Answers::Holder(Unknown), "refused 27 holderKeyUnknown"),
+];
+
+const OTHER_ALG_TOLD: [(Answers, &str); 2] = [
+    (Answers::Issuer(Good), "refused 29 bindingAlg"),
+    (Answers::Holder(Good), "not asked"),
 ];
 
 #[test]
 fn an_answer_decides_its_condition(rt: HostRuntime) -> Result<(), Fail> {
     let alloc = rt.alloc();
-    for (file, alg, answers, wanted) in TOLD {
-        assert_eq!(rt;
-            judged(alloc, file, alg, answers)?.as_str(),
-            wanted,
-            "{answers:?}"
-        );
+    for (file, alg, told) in [
+        (UNBOUND, "ES256", UNBOUND_TOLD.as_slice()),
+        (BOUND, "ES256", BOUND_TOLD.as_slice()),
+        (BOUND, "ES384", OTHER_ALG_TOLD.as_slice()),
+    ] {
+        for (answers, wanted) in told {
+            let found = judged(alloc, file, alg, *answers)?;
+            assert_eq!(rt; found.as_str(), *wanted, "{answers:?}");
+        }
     }
     Ok(())
 }
