@@ -6,42 +6,30 @@ use Rattle.std.proofs.KnownBytes.{Appends-trans}
 use Rattle.std.specs.Io.KnownBytes.{Appends}
 use Rattle.sd_outside.specs.Causes.{AppendsPrefix}
 use Rattle.sd_outside.specs.Limits.{file_max}
+use Rattle.verifier_core.specs.declared.policy.Policy.{Policy}
 use Rattle.feed_core.specs.Cut.{IsOneLine, last_line}
 use Rattle.feed_core.specs.FeedVerdict.{TellsVerdicts}
 use Rattle.feed_core.specs.Feed.{FeedState, taking, Takes, TellsFront, end_line}
-use Rattle.feed_core.specs.FeedCalls.{new_feed, ToldSoFar, TakesFront, count_at_end}
+use Rattle.feed_core.specs.FeedCalls.{new_feed, ToldSoFar, TakesFront}
 use Rattle.feed_core.proofs.Cuts.{all_take, cut_of}
 use Rattle.feed_core.proofs.Fronts.{front_none, front_all, front_behind}
 use Rattle.feed_core.proofs.AnyCut.{goes_on}
 
 -- the verdict on what was kept is held, before the number of lines
-pub record HoldsLast (before : FeedState) (last : ℕ) (held : List ℕ) : Type 0 where
-  pub told : TellsVerdicts before.policy before.now (last_line before.rest) held
-  pub last_is : last ≡ length (last_line before.rest)
+module _ (policy : Policy) (now count : ℕ) (kept first held : List ℕ) (none : first ≡ []) (told : (text : List ℕ) × TellsVerdicts policy now (last_line kept) text × (held ≡ first ++ text)) (a b : Option (List ℕ)) where
+  held_is : told.0 ≡ held
+  held_is = sym (told.2 ∙ ap (λ (t : List ℕ). t ++ told.0) none)
 
-pub holds_last : (before : FeedState) (last : ℕ) (first held : List ℕ) → first ≡ [] → (text : List ℕ) × TellsVerdicts before.policy before.now (last_line before.rest) text × (held ≡ first ++ text)
-    → last ≡ length (last_line before.rest) → HoldsLast before last held
-holds_last before last first held none told last_is =
-    let P : List ℕ → Type 0 = λ t. TellsVerdicts before.policy before.now (last_line before.rest) t in
-    record { told = subst P (sym (told.2 ∙ ap (λ (t : List ℕ). t ++ told.0) none)) told.1; last_is = last_is }
+  -- there is no memory for the number of lines
+  pub ended_short : AppendsPrefix a b held → TellsFront policy now (last_line kept) (end_line (count + length (last_line kept))) a b
+  ended_short part =
+      front_behind policy now (last_line kept) (end_line (count + length (last_line kept))) a b
+      (front_all policy now (last_line kept) held [] a b (rw held_is at told.1) (rw append-nil part))
 
-end_is : (before : FeedState) (last : ℕ) (held : List ℕ) → HoldsLast before last held → end_line (before.count + last) ≡ end_line (count_at_end before)
-end_is before last held is = ap (λ (n : ℕ). end_line (before.count + n)) is.last_is
-
--- there is no memory for the number of lines
-pub ended_short : (before : FeedState) (last : ℕ) (held : List ℕ) (a b : Option (List ℕ)) → HoldsLast before last held → AppendsPrefix a b held
-    → TellsFront before.policy before.now (last_line before.rest) (end_line (count_at_end before)) a b
-ended_short before last held a b is part =
-    front_behind before.policy before.now (last_line before.rest) (end_line (count_at_end before)) a b
-    (front_all before.policy before.now (last_line before.rest) held [] a b is.told (rw append-nil part))
-
--- or it is told
-pub ended_front : (before : FeedState) (last : ℕ) (held all : List ℕ) (a b : Option (List ℕ)) → HoldsLast before last held → all ≡ held ++ end_line (before.count + last) → AppendsPrefix a b all
-    → TellsFront before.policy before.now (last_line before.rest) (end_line (count_at_end before)) a b
-ended_front before last held all a b is added part =
-    let P : List ℕ → Type 0 = λ t. AppendsPrefix a b t in
-    front_all before.policy before.now (last_line before.rest) held (end_line (count_at_end before)) a b is.told
-    (subst P (added ∙ ap (λ (t : List ℕ). held ++ t) (end_is before last held is)) part)
+  -- or it is told
+  pub ended_front : (last : ℕ) (all : List ℕ) → last ≡ length (last_line kept) → all ≡ held ++ end_line (count + last) → AppendsPrefix a b all → TellsFront policy now (last_line kept) (end_line (count + length (last_line kept))) a b
+  ended_front last all same added part =
+      front_all policy now (last_line kept) held (end_line (count + length (last_line kept))) a b (rw held_is at told.1) (rw (added, same) at part)
 
 -- nothing was taken
 pub taken_none : (before : FeedState) (piece : List ℕ) (a : Option (List ℕ)) → TakesFront before piece a a

@@ -25,9 +25,10 @@ gave_more before mid after bytes more first next = record {
 pub nothing : (before after : Input) (n : ℕ) (room : List ℕ) → n ≡ 0 → Gave before after (take n room) → Gave before after []
 nothing before after n room none gave = let P : ℕ → Type 0 = λ k. Gave before after (take k room) in subst P none gave
 
-pub err_holds : {T E P : Type 0} → (r : Result T E) (e : E) → IsErrOf r e → OnErr r P → P
-err_holds (Ok x) e is p = let clash : ⊥ = cc in absurd clash
-err_holds (Err x) e is p = p
+pub err_holds : {T E P : Type 0} → (r : Result T E) (a b : E) → IsErrOf r a ⊎ IsErrOf r b → OnErr r P → P
+err_holds (Ok x) a b (inl is) p = let clash : ⊥ = cc in absurd clash
+err_holds (Ok x) a b (inr is) p = let clash : ⊥ = cc in absurd clash
+err_holds (Err x) a b is p = p
 
 -- these bytes came, and the feed took them
 pub record Pumped (policy : Policy) (now most left : ℕ) (before after : Input) (feed : FeedState) (old new : Option (List ℕ)) : Type 0 where

@@ -1,5 +1,5 @@
 // All that a source gives, through a feed.
-ghost use Rattle.std.specs.Prelude.{◌≡◌, ◌≢◌, ◌<◌, ◌≤◌, ◌+◌, ◌^◌, ℕ, List, [], ◌∷◌, false, length, take, OnOk, OnErr, IfOk, IsErrOf};
+ghost use Rattle.std.specs.Prelude.{◌≡◌, ◌≢◌, ◌<◌, ◌≤◌, ◌⊎◌, ◌+◌, ◌^◌, ℕ, List, [], ◌∷◌, false, length, take, OnOk, OnErr, IfOk, IsErrOf};
 ghost use Rattle.std.specs.Io.KnownBytes.{Appends, IsAtEnd};
 ghost use Rattle.sd_outside.specs.Limits.{feed_max};
 ghost use Rattle.sd_outside.specs.Causes.{Rose};
@@ -127,10 +127,7 @@ pub(crate) fn pump<R: Source, O: Sink>(
     ensures part { IsErrOf result Halt.Unread
         → FedPart feed.old.policy feed.old.now most (input R.Source src.old)
         (input R.Source src.new) (O.written out.old) (O.written out.new) }
-    ensures memory { IsErrOf result Halt.Memory
-        → FedFront feed.old.policy feed.old.now most (input R.Source src.old)
-        (input R.Source src.new) (O.written out.old) (O.written out.new) }
-    ensures unwritten { IsErrOf result Halt.Unwritten
+    ensures front { IsErrOf result Halt.Memory ⊎ IsErrOf result Halt.Unwritten
         → FedFront feed.old.policy feed.old.now most (input R.Source src.old)
         (input R.Source src.new) (O.written out.old) (O.written out.new) }
     ensures cause { IsErrOf result Halt.Unwritten → Rose (O.faults out.old) (O.faults out.new) }

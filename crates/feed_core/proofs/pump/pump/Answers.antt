@@ -35,30 +35,19 @@ returns-then-count-eq0-clause-all g c =
     on_ok_weaker c.end_feed.result (pumped_all c.args.feed.now.policy c.args.feed.now.now c.args.most (input g.R.Source c.args.src.now) (g.O.Sink.written c.args.out.now) c.loop-count.left (input g.R.Source c.loop-count.src) (input g.R.Source c.pull_piece.new.src) c.loop-count.feed (g.O.Sink.written c.loop-count.out) (g.O.Sink.written c.end_feed.new.out) c.loop-count.invariant.pumped gave
     (c.in-Ok.ensures.end c.if-count-eq0.true)) c.end_feed.ensures.ends
 
-pub returns-then-count-eq0-clause-memory : goal.returns-then-count-eq0-clause-memory
-returns-then-count-eq0-clause-memory g c is =
+pub returns-then-count-eq0-clause-front : goal.returns-then-count-eq0-clause-front
+returns-then-count-eq0-clause-front g c is =
     let gave = nothing (input g.R.Source c.loop-count.src) (input g.R.Source c.pull_piece.new.src) c.in-Ok.count c.pull_piece.new.room c.if-count-eq0.true c.in-Ok.ensures.gave in
     pumped_unended c.args.feed.now.policy c.args.feed.now.now c.args.most (input g.R.Source c.args.src.now) (g.O.Sink.written c.args.out.now) c.loop-count.left (input g.R.Source c.loop-count.src) (input g.R.Source c.pull_piece.new.src) c.loop-count.feed (g.O.Sink.written c.loop-count.out) (g.O.Sink.written c.end_feed.new.out) c.loop-count.invariant.pumped gave
-    (err_holds c.end_feed.result Memory is c.end_feed.ensures.front)
-
-pub returns-then-count-eq0-clause-unwritten : goal.returns-then-count-eq0-clause-unwritten
-returns-then-count-eq0-clause-unwritten g c is =
-    let gave = nothing (input g.R.Source c.loop-count.src) (input g.R.Source c.pull_piece.new.src) c.in-Ok.count c.pull_piece.new.room c.if-count-eq0.true c.in-Ok.ensures.gave in
-    pumped_unended c.args.feed.now.policy c.args.feed.now.now c.args.most (input g.R.Source c.args.src.now) (g.O.Sink.written c.args.out.now) c.loop-count.left (input g.R.Source c.loop-count.src) (input g.R.Source c.pull_piece.new.src) c.loop-count.feed (g.O.Sink.written c.loop-count.out) (g.O.Sink.written c.end_feed.new.out) c.loop-count.invariant.pumped gave
-    (err_holds c.end_feed.result Unwritten is c.end_feed.ensures.front)
+    (err_holds c.end_feed.result Memory Unwritten is c.end_feed.ensures.front)
 
 pub take_piece-requires-clause-countable : goal.take_piece-requires-clause-countable
 take_piece-requires-clause-countable g c =
     let few = counted c.args.feed.now.policy c.args.feed.now.now c.args.most (input g.R.Source c.args.src.now) (g.O.Sink.written c.args.out.now) c.loop-count.left (input g.R.Source c.loop-count.src) c.loop-count.feed (g.O.Sink.written c.loop-count.out) c.loop-count.invariant.pumped in
     omega (arith, few, c.requires.few, length-take c.in-Ok.count c.pull_piece.new.room, c.in-Ok.ensures.within, c.loop-count.invariant.pumped.used)
 
-pub returns-in-Err-take_piece-clause-memory : goal.returns-in-Err-take_piece-clause-memory
-returns-in-Err-take_piece-clause-memory g c is =
-    pumped_front c.args.feed.now.policy c.args.feed.now.now c.args.most (input g.R.Source c.args.src.now) (g.O.Sink.written c.args.out.now) c.loop-count.left (input g.R.Source c.loop-count.src) (input g.R.Source c.pull_piece.new.src) c.loop-count.feed (take c.in-Ok.count c.pull_piece.new.room) (g.O.Sink.written c.loop-count.out) (g.O.Sink.written c.take_piece.new.out)
-    c.loop-count.invariant.pumped c.in-Ok.ensures.gave (omega (arith, length-take c.in-Ok.count c.pull_piece.new.room, c.in-Ok.ensures.within)) c.in-Err-take_piece.ensures.front
-
-pub returns-in-Err-take_piece-clause-unwritten : goal.returns-in-Err-take_piece-clause-unwritten
-returns-in-Err-take_piece-clause-unwritten g c is =
+pub returns-in-Err-take_piece-clause-front : goal.returns-in-Err-take_piece-clause-front
+returns-in-Err-take_piece-clause-front g c is =
     pumped_front c.args.feed.now.policy c.args.feed.now.now c.args.most (input g.R.Source c.args.src.now) (g.O.Sink.written c.args.out.now) c.loop-count.left (input g.R.Source c.loop-count.src) (input g.R.Source c.pull_piece.new.src) c.loop-count.feed (take c.in-Ok.count c.pull_piece.new.room) (g.O.Sink.written c.loop-count.out) (g.O.Sink.written c.take_piece.new.out)
     c.loop-count.invariant.pumped c.in-Ok.ensures.gave (omega (arith, length-take c.in-Ok.count c.pull_piece.new.room, c.in-Ok.ensures.within)) c.in-Err-take_piece.ensures.front
 

@@ -1,4 +1,4 @@
-use Rattle.std.proofs.Common.{refl, map, string_bytes, Err, ap}
+use Rattle.std.proofs.Common.{inl, inr, refl, map, string_bytes, Err, ap}
 use Rattle.sd_outside.specs.declared.status.Status.{Status}
 use Rattle.feed_core.proofs.Stopping.{stopped, all_judged, too_long, source_failed, out_failed, memory_failed}
 use Rattle.feed_core.proofs.run.run_feed.Goals as goal
@@ -26,10 +26,10 @@ returns-in-Err-Unread-clause-ends g c =
 pub returns-in-Err-Unwritten-clause-ends : goal.returns-in-Err-Unwritten-clause-ends
 returns-in-Err-Unwritten-clause-ends g c =
     out_failed (map string_bytes c.args.words.now) _ _ c.args.now c.tell-in-Err-Unwritten.result c.in-Some.name.now c.in-Some.most c.in-Ok.policy c.new.result c.in-Some.ensures.some c.in-Ok.ensures.policy c.new.ensures
-    (c.in-Err-Unwritten.ensures.unwritten (ap Err c.in-Err-Unwritten.field-0-is)) (c.in-Err-Unwritten.ensures.cause (ap Err c.in-Err-Unwritten.field-0-is))
+    (c.in-Err-Unwritten.ensures.front (inr (ap Err c.in-Err-Unwritten.field-0-is))) (c.in-Err-Unwritten.ensures.cause (ap Err c.in-Err-Unwritten.field-0-is))
     c.tell-in-Err-Unwritten.ensures.status c.tell-in-Err-Unwritten.ensures.told
 
 pub returns-clause-ends : goal.returns-clause-ends
 returns-clause-ends g c =
     memory_failed (map string_bytes c.args.words.now) _ _ c.args.now c.tell-in-Err-Memory.result c.in-Some.name.now c.in-Some.most c.in-Ok.policy c.new.result c.in-Some.ensures.some c.in-Ok.ensures.policy c.new.ensures
-    (c.in-Err-Memory.ensures.memory (ap Err c.in-Err-Memory.field-0-is)) c.tell-in-Err-Memory.ensures.status c.tell-in-Err-Memory.ensures.told
+    (c.in-Err-Memory.ensures.front (inl (ap Err c.in-Err-Memory.field-0-is))) c.tell-in-Err-Memory.ensures.status c.tell-in-Err-Memory.ensures.told
