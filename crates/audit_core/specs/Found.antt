@@ -1,7 +1,5 @@
 -- For private functions: what is found of the sites of a token.
-use Rattle.std.specs.Prelude.{◌≡◌, ℕ, ◌+◌, List, [], ◌∷◌, ◌++◌, map, length, Bool, bytes_eq}
-use Rattle.std.specs.List.{list_any}
-use Rattle.std.specs.Borrow.{Bor}
+use Rattle.std.specs.Prelude.{◌≡◌, ℕ, ◌+◌, List, [], ◌∷◌, ◌++◌, map, length, Bool}
 use Rattle.claim_tree.specs.Tree.{Text, Tree}
 use Rattle.sd_outside.specs.Lists.{In}
 use Rattle.digest_sites.specs.Given.{Given}
@@ -15,10 +13,6 @@ use Rattle.audit_core.specs.Audited.{IsDigestText, is_given, ShowsClaims, standi
 use Rattle.audit_core.specs.AuditSteps.{standing_text}
 use Rattle.audit_core.specs.Places.{values_at}
 use Rattle.audit_core.specs.Strange.{strange_at}
-
--- the texts that are in a set of them
-abbrev pub is_in : List (Bor Text) → Text → Bool
-is_in keys digest = list_any (λ (key : Bor Text). bytes_eq digest key.now) keys
 
 -- ---- the sites whose digests are of no disclosure
 

@@ -1,11 +1,14 @@
 -- For private functions: the sites of the tree at a path whose digests are not
 -- known, as they are listed on a walk.
-use Rattle.std.specs.Prelude.{ℕ, suc, List, [], ◌∷◌, ◌++◌, Bool, Option, Some, None, bytes_eq, decimal, if◌then◌else◌}
+use Rattle.std.specs.Prelude.{◌≡◌, ℕ, suc, List, [], ◌∷◌, ◌++◌, Bool, Option, Some, None, bytes_eq, decimal, if◌then◌else◌}
+use Rattle.std.specs.List.{list_any}
+use Rattle.std.specs.Borrow.{Bor}
 use Rattle.claim_tree.specs.Tree.{Text, Tree, leaf, array, object, Elements, no_elements, element, Members, no_members, member}
 use Rattle.digest_sites.specs.Reserved.{sd_name, sd_texts, element_digest}
 use Rattle.digest_sites.specs.Walk.{site}
 use Rattle.digest_sites.specs.declared.site.Site.{Site}
 use Rattle.digest_sites.specs.declared.site.SiteKind.TheVariants.{Member, Element}
+use Rattle.audit_core.specs.declared.strange.Search.{Search}
 
 abbrev pub strange_own : (Text → Bool) → List Text → List Text → List Site
 strange_own known at [] = []
@@ -34,3 +37,13 @@ abbrev mutual
   strange_members known at (member name t ms) =
       (if bytes_eq name sd_name then [] else strange_at known (at ++ name ∷ []) t)
       ++ strange_members known at ms
+
+-- the texts that are in a set of them
+abbrev pub is_in : List (Bor Text) → Text → Bool
+is_in keys digest = list_any (λ (key : Bor Text). bytes_eq digest key.now) keys
+
+-- a search adds these sites, which are listed by what it knows and where it is, and both stay
+abbrev pub Adds : Search → Search → ((Text → Bool) → List Text → List Site) → Type 0
+Adds before after sites =
+    (after.found ≡ before.found ++ sites (is_in before.known.keys) before.at)
+    × (after.at ≡ before.at) × (after.known ≡ before.known)

@@ -2,7 +2,7 @@
 ghost use Rattle.std.specs.Prelude.{◌≡◌, ◌||◌, IfOk, OnOk, bytes_eq};
 ghost use Rattle.claim_tree.specs.Tree.{Text};
 ghost use Rattle.audit_core.specs.Audited.{is_given};
-ghost use Rattle.audit_core.specs.Found.{is_in};
+ghost use Rattle.audit_core.specs.Strange.{is_in};
 
 use digest_index::Seeded;
 use digest_sites::GivenList;

@@ -2,15 +2,16 @@
 ghost use Rattle.std.specs.Prelude.{◌≡◌, [], ◌∷◌, ◌++◌, None, IfOk, OnOk, IsTrue};
 ghost use Rattle.claim_tree.specs.View.{tree_of};
 ghost use Rattle.marked_tree.specs.View.{marked_of};
-ghost use Rattle.audit_core.specs.Found.{is_in, AreOthers};
-ghost use Rattle.audit_core.specs.Places.{IsBare, value_at, values_at, elements_values, members_values};
+ghost use Rattle.audit_core.specs.Found.{AreOthers};
+ghost use Rattle.audit_core.specs.Strange.{Adds};
+ghost use Rattle.audit_core.specs.Places.{IsBare, value_at, values_at};
 
 use crate::known::digests_of;
 use crate::strange::{self, Search};
 use claim_tree::{Path, Tree};
 use digest_sites::{GivenList, SiteList};
 use itoa::Buffer;
-use marked_tree::{Marked, MarkedList, MarkedMap};
+use marked_tree::Marked;
 use sd_outside::NoMemory;
 use std::alloc::Global;
 
@@ -42,60 +43,30 @@ pub(crate) fn others_of(
 
 #[cycle(values)]
 fn walk(search: &mut Search<'_>, given: &GivenList, claims: &Marked) -> Result<(), NoMemory>
-    ensures found { OnOk result
-        (search.new.found
-        ≡ search.old.found
-        ++ values_at (is_in search.old.known.keys) given.now search.old.at
-        (marked_of claims.now)) }
-    ensures at { OnOk result (search.new.at ≡ search.old.at) }
-    ensures known { OnOk result (search.new.known ≡ search.old.known) }
+    ensures { OnOk result
+        (Adds search.old search.new
+        (λ known at. values_at known given.now at (marked_of claims.now))) }
 {
     match claims {
-        Marked::List(list) => walk_elements(search, given, list),
-        Marked::Object(map) => walk_members(search, given, map),
-        _ => Ok(()),
-    }
-}
-
-#[cycle(values)]
-#[tactic(auto, using(marked_tree::proofs::MarkedWalks::into_element))]
-fn walk_elements(
-    search: &mut Search<'_>,
-    given: &GivenList,
-    list: &MarkedList,
-) -> Result<(), NoMemory>
-    ensures found { OnOk result
-        (search.new.found
-        ≡ search.old.found
-        ++ elements_values (is_in search.old.known.keys) given.now search.old.at 0
-        list.now) }
-    ensures at { OnOk result (search.new.at ≡ search.old.at) }
-    ensures known { OnOk result (search.new.known ≡ search.old.known) }
-{
-    for (i, element) in list.elements().iter().enumerate() {
-        let (mark, tree) = element;
-        if !is_bare(*mark, tree) {
-            let mut digits = Buffer::new();
-            walk_node(search, given, digits.format(i), *mark, tree)?;
+        Marked::List(list) => {
+            #[tactic(auto, using(marked_tree::proofs::MarkedWalks::into_element))]
+            for (i, element) in list.elements().iter().enumerate() {
+                let (mark, tree) = element;
+                if !is_bare(*mark, tree) {
+                    let mut digits = Buffer::new();
+                    walk_node(search, given, digits.format(i), *mark, tree)?;
+                }
+            }
         }
-    }
-    Ok(())
-}
-
-#[cycle(values)]
-#[tactic(auto, using(marked_tree::proofs::MarkedWalks::into_member))]
-fn walk_members(search: &mut Search<'_>, given: &GivenList, map: &MarkedMap) -> Result<(), NoMemory>
-    ensures found { OnOk result
-        (search.new.found
-        ≡ search.old.found
-        ++ members_values (is_in search.old.known.keys) given.now search.old.at map.now) }
-    ensures at { OnOk result (search.new.at ≡ search.old.at) }
-    ensures known { OnOk result (search.new.known ≡ search.old.known) }
-{
-    for (name, mark, tree) in map.members() {
-        if !is_bare(*mark, tree) {
-            walk_node(search, given, name.as_str(), *mark, tree)?;
+        Marked::Object(map) => {
+            #[tactic(auto, using(marked_tree::proofs::MarkedWalks::into_member))]
+            for (name, mark, tree) in map.members() {
+                if !is_bare(*mark, tree) {
+                    walk_node(search, given, name.as_str(), *mark, tree)?;
+                }
+            }
         }
+        _ => {}
     }
     Ok(())
 }
@@ -119,15 +90,10 @@ fn walk_node(
     mark: Option<u32>,
     tree: &Marked,
 ) -> Result<(), NoMemory>
-    ensures found { OnOk result
-        (search.new.found
-        ≡ search.old.found
-        ++ (values_at (is_in search.old.known.keys) given.now
-        (search.old.at ++ step.now ∷ []) (marked_of tree.now)
-        ++ value_at (is_in search.old.known.keys) given.now
-        (search.old.at ++ step.now ∷ []) mark)) }
-    ensures at { OnOk result (search.new.at ≡ search.old.at) }
-    ensures known { OnOk result (search.new.known ≡ search.old.known) }
+    ensures { OnOk result
+        (Adds search.old search.new
+        (λ known at. values_at known given.now (at ++ step.now ∷ []) (marked_of tree.now)
+        ++ value_at known given.now (at ++ step.now ∷ []) mark)) }
 {
     search.at.push(step)?;
     walk(search, given, tree)?;
@@ -138,12 +104,9 @@ fn walk_node(
 
 // The value with this number.
 fn walk_value(search: &mut Search<'_>, given: &GivenList, mark: Option<u32>) -> Result<(), NoMemory>
-    ensures found { OnOk result
-        (search.new.found
-        ≡ search.old.found
-        ++ value_at (is_in search.old.known.keys) given.now search.old.at mark) }
-    ensures at { OnOk result (search.new.at ≡ search.old.at) }
-    ensures known { OnOk result (search.new.known ≡ search.old.known) }
+    ensures { OnOk result
+        (Adds search.old search.new
+        (λ known at. value_at known given.now at mark)) }
 {
     let Some(number) = mark else {
         return Ok(());

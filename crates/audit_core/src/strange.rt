@@ -1,10 +1,9 @@
 // The sites whose digests are of no disclosure.
-ghost use Rattle.std.specs.Prelude.{◌≡◌, [], ◌∷◌, ◌++◌, Some, decimal, IsSome, OnOk, unwrap_or};
+ghost use Rattle.std.specs.Prelude.{[], ◌∷◌, ◌++◌, Some, IsSome, OnOk, unwrap_or};
 ghost use Rattle.claim_tree.specs.View.{tree_of};
-ghost use Rattle.digest_sites.specs.Reserved.{texts_of, sd_texts, element_digest as digest_in};
+ghost use Rattle.digest_sites.specs.Reserved.{texts_of, sd_texts};
 ghost use Rattle.digest_sites.specs.Walk.{site};
-ghost use Rattle.audit_core.specs.Found.{is_in};
-ghost use Rattle.audit_core.specs.Strange.{strange_at, strange_own, strange_on, strange_elements, strange_members};
+ghost use Rattle.audit_core.specs.Strange.{Adds, strange_at, strange_own, strange_on};
 
 use crate::known::has;
 use claim_tree::{Path, Tree, TreeList, TreeMap};
@@ -31,126 +30,52 @@ pub(crate) struct Search<'a> {
 // Adds the strange sites of a tree that stands where the search is.
 #[cycle(strange)]
 pub(crate) fn walk(search: &mut Search<'_>, tree: &Tree) -> Result<(), NoMemory>
-    ensures found { OnOk result
-        (search.new.found
-        ≡ search.old.found
-        ++ strange_at (is_in search.old.known.keys) search.old.at (tree_of tree.now)) }
-    ensures at { OnOk result (search.new.at ≡ search.old.at) }
-    ensures known { OnOk result (search.new.known ≡ search.old.known) }
+    ensures { OnOk result
+        (Adds search.old search.new
+        (λ known at. strange_at known at (tree_of tree.now))) }
 {
     match tree {
-        Tree::List(trees) => walk_elements(search, trees),
+        Tree::List(trees) => {
+            #[tactic(auto, using(claim_tree::proofs::Walks::into_element))]
+            for (i, tree) in trees.trees().iter().enumerate() {
+                let mut digits = Buffer::new();
+                let step = digits.format(i);
+                match element_digest(tree) {
+                    Some(digest) => add_element(search, step, digest)?,
+                    None => walk_inside(search, step, tree)?,
+                }
+            }
+        }
         Tree::Object(trees) => {
             add_own(search, trees)?;
-            walk_members(search, trees)
+            #[tactic(auto, using(claim_tree::proofs::Walks::into_member))]
+            for (name, tree) in trees.members() {
+                if !is_sd(name) {
+                    walk_inside(search, name.as_str(), tree)?;
+                }
+            }
         }
-        _ => Ok(()),
-    }
-}
-
-#[cycle(strange)]
-#[tactic(auto, using(claim_tree::proofs::Walks::into_element))]
-fn walk_elements(search: &mut Search<'_>, trees: &TreeList) -> Result<(), NoMemory>
-    ensures found { OnOk result
-        (search.new.found
-        ≡ search.old.found
-        ++ strange_elements (is_in search.old.known.keys) search.old.at 0 trees.now) }
-    ensures at { OnOk result (search.new.at ≡ search.old.at) }
-    ensures known { OnOk result (search.new.known ≡ search.old.known) }
-{
-    for (i, tree) in trees.trees().iter().enumerate() {
-        walk_element(search, i, tree)?;
+        _ => {}
     }
     Ok(())
 }
 
+// The tree on a step, which is not made to a value that has nothing inside.
 #[cycle(strange)]
-fn walk_element(search: &mut Search<'_>, i: usize, tree: &Tree) -> Result<(), NoMemory>
-    ensures found { OnOk result
-        (search.new.found
-        ≡ search.old.found
-        ++ strange_on (is_in search.old.known.keys) (search.old.at ++ decimal i ∷ [])
-        (digest_in (tree_of tree.now))
-        (strange_at (is_in search.old.known.keys) (search.old.at ++ decimal i ∷ [])
-        (tree_of tree.now))) }
-    ensures at { OnOk result (search.new.at ≡ search.old.at) }
-    ensures known { OnOk result (search.new.known ≡ search.old.known) }
-{
-    match element_digest(tree) {
-        Some(digest) => add_element(search, i, digest),
-        None => walk_position(search, i, tree),
-    }
-}
-
-// The element at a position: no step is made to a value that has nothing inside.
-#[cycle(strange)]
-fn walk_position(search: &mut Search<'_>, i: usize, tree: &Tree) -> Result<(), NoMemory>
-    ensures found { OnOk result
-        (search.new.found
-        ≡ search.old.found
-        ++ strange_at (is_in search.old.known.keys) (search.old.at ++ decimal i ∷ [])
-        (tree_of tree.now)) }
-    ensures at { OnOk result (search.new.at ≡ search.old.at) }
-    ensures known { OnOk result (search.new.known ≡ search.old.known) }
+fn walk_inside(search: &mut Search<'_>, step: &str, tree: &Tree) -> Result<(), NoMemory>
+    ensures { OnOk result
+        (Adds search.old search.new
+        (λ known at. strange_at known (at ++ step.now ∷ []) (tree_of tree.now))) }
 {
     match tree {
         Tree::List(_) | Tree::Object(_) => {
-            let mut digits = Buffer::new();
-            walk_inside(search, digits.format(i), tree)
+            search.at.push(step)?;
+            walk(search, tree)?;
+            search.at.pop();
+            Ok(())
         }
         _ => Ok(()),
     }
-}
-
-#[cycle(strange)]
-#[tactic(auto, using(claim_tree::proofs::Walks::into_member))]
-fn walk_members(search: &mut Search<'_>, trees: &TreeMap) -> Result<(), NoMemory>
-    ensures found { OnOk result
-        (search.new.found
-        ≡ search.old.found
-        ++ strange_members (is_in search.old.known.keys) search.old.at trees.now) }
-    ensures at { OnOk result (search.new.at ≡ search.old.at) }
-    ensures known { OnOk result (search.new.known ≡ search.old.known) }
-{
-    for (name, tree) in trees.members() {
-        if !is_sd(name) {
-            walk_member(search, name, tree)?;
-        }
-    }
-    Ok(())
-}
-
-#[cycle(strange)]
-fn walk_member(search: &mut Search<'_>, name: &TextBox, tree: &Tree) -> Result<(), NoMemory>
-    ensures found { OnOk result
-        (search.new.found
-        ≡ search.old.found
-        ++ strange_at (is_in search.old.known.keys) (search.old.at ++ name.now ∷ [])
-        (tree_of tree.now)) }
-    ensures at { OnOk result (search.new.at ≡ search.old.at) }
-    ensures known { OnOk result (search.new.known ≡ search.old.known) }
-{
-    match tree {
-        Tree::List(_) | Tree::Object(_) => walk_inside(search, name.as_str(), tree),
-        _ => Ok(()),
-    }
-}
-
-// The tree on a step.
-#[cycle(strange)]
-fn walk_inside(search: &mut Search<'_>, step: &str, tree: &Tree) -> Result<(), NoMemory>
-    ensures found { OnOk result
-        (search.new.found
-        ≡ search.old.found
-        ++ strange_at (is_in search.old.known.keys) (search.old.at ++ step.now ∷ [])
-        (tree_of tree.now)) }
-    ensures at { OnOk result (search.new.at ≡ search.old.at) }
-    ensures known { OnOk result (search.new.known ≡ search.old.known) }
-{
-    search.at.push(step)?;
-    walk(search, tree)?;
-    search.at.pop();
-    Ok(())
 }
 
 // Whether the texts of the steps are longer than this.
@@ -170,10 +95,7 @@ fn add_site(
     kind: SiteKind,
     digest: &TextBox,
 ) -> Result<(), NoMemory>
-    ensures found { OnOk result
-        (search.new.found ≡ search.old.found ++ site at kind digest.now ∷ []) }
-    ensures at { search.new.at ≡ search.old.at }
-    ensures known { search.new.known ≡ search.old.known }
+    ensures { OnOk result (Adds search.old search.new (λ _ _. site at kind digest.now ∷ [])) }
 {
     if is_longer(&at, search.longest) {
         return Err(NoMemory);
@@ -182,31 +104,24 @@ fn add_site(
     search.found.push(Site { at, kind, digest })
 }
 
-fn add_element(search: &mut Search<'_>, i: usize, digest: &TextBox) -> Result<(), NoMemory>
-    ensures found { OnOk result
-        (search.new.found
-        ≡ search.old.found
-        ++ strange_on (is_in search.old.known.keys) (search.old.at ++ decimal i ∷ [])
-        (Some digest.now) []) }
-    ensures at { search.new.at ≡ search.old.at }
-    ensures known { search.new.known ≡ search.old.known }
+// The element on a step, which has a digest.
+fn add_element(search: &mut Search<'_>, step: &str, digest: &TextBox) -> Result<(), NoMemory>
+    ensures { OnOk result
+        (Adds search.old search.new
+        (λ known at. strange_on known (at ++ step.now ∷ []) (Some digest.now) [])) }
 {
     if has(&search.known, digest.as_str()) {
         return Ok(());
     }
-    let mut digits = Buffer::new();
     let mut at = search.at.copy(search.alloc)?;
-    at.push(digits.format(i))?;
+    at.push(step)?;
     add_site(search, at, SiteKind::Element, digest)
 }
 
 fn add_own(search: &mut Search<'_>, trees: &TreeMap) -> Result<(), NoMemory>
-    ensures found { OnOk result
-        (search.new.found
-        ≡ search.old.found
-        ++ strange_own (is_in search.old.known.keys) search.old.at (sd_texts trees.now)) }
-    ensures at { search.new.at ≡ search.old.at }
-    ensures known { search.new.known ≡ search.old.known }
+    ensures { OnOk result
+        (Adds search.old search.new
+        (λ known at. strange_own known at (sd_texts trees.now))) }
 {
     match own_digests(trees) {
         Some(digests) => add_members(search, digests),
@@ -216,13 +131,9 @@ fn add_own(search: &mut Search<'_>, trees: &TreeMap) -> Result<(), NoMemory>
 
 fn add_members(search: &mut Search<'_>, digests: &TreeList) -> Result<(), NoMemory>
     requires { IsSome (texts_of digests.now) }
-    ensures found { OnOk result
-        (search.new.found
-        ≡ search.old.found
-        ++ strange_own (is_in search.old.known.keys) search.old.at
-        (unwrap_or (texts_of digests.now) [])) }
-    ensures at { search.new.at ≡ search.old.at }
-    ensures known { search.new.known ≡ search.old.known }
+    ensures { OnOk result
+        (Adds search.old search.new
+        (λ known at. strange_own known at (unwrap_or (texts_of digests.now) []))) }
 {
     for tree in digests.trees() {
         if let Some(digest) = tree.as_text() {
@@ -233,12 +144,9 @@ fn add_members(search: &mut Search<'_>, digests: &TreeList) -> Result<(), NoMemo
 }
 
 fn add_member(search: &mut Search<'_>, digest: &TextBox) -> Result<(), NoMemory>
-    ensures found { OnOk result
-        (search.new.found
-        ≡ search.old.found
-        ++ strange_own (is_in search.old.known.keys) search.old.at (digest.now ∷ [])) }
-    ensures at { search.new.at ≡ search.old.at }
-    ensures known { search.new.known ≡ search.old.known }
+    ensures { OnOk result
+        (Adds search.old search.new
+        (λ known at. strange_own known at (digest.now ∷ []))) }
 {
     if has(&search.known, digest.as_str()) {
         return Ok(());

@@ -2,8 +2,7 @@ use Rattle.std.proofs.Common.{◌≡◌, ◌++◌, drop, IsSome}
 use Rattle.std.specs.Prelude.{[], unwrap_or}
 use Rattle.claim_tree.specs.ListViews.{elements_of}
 use Rattle.digest_sites.specs.Reserved.{texts_of}
-use Rattle.audit_core.specs.Found.{is_in}
-use Rattle.audit_core.specs.Strange.{strange_own}
+use Rattle.audit_core.specs.Strange.{is_in, strange_own}
 use Rattle.audit_core.proofs.strange.add_members.Given as goal
 
 abbrev pub invariant-loop-tree : goal.invariant-loop-tree
