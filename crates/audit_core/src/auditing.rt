@@ -4,6 +4,7 @@ ghost use Rattle.sd_outside.specs.Limits.{count_max, json_depth_max};
 ghost use Rattle.claim_tree.specs.Tree.{Tree as SeenTree, depth as depth_of};
 ghost use Rattle.claim_tree.specs.View.{tree_of};
 ghost use Rattle.refusals.specs.Lowest.{NoneApplies};
+ghost use Rattle.hmac_sign.specs.Algs.{alg_text};
 ghost use Rattle.digest_sites.specs.Given.{Given as SeenGiven};
 ghost use Rattle.marked_tree.specs.Paths.{Path, is_among};
 ghost use Rattle.rebuild_core.specs.Answer.{IsPayload, ValuesShallow};
@@ -33,7 +34,7 @@ use crate::standing::are_alike;
 use crate::written::{Written, bare, read_written};
 use claim_tree::PathList;
 use digest_index::Steps;
-use hmac_sign::Checker;
+use hmac_sign::{Alg, Checker};
 use issuer_core::{IssueError, Order, judged_places, order_refusal};
 use json_form::{TokenError, TokenText, TokenView};
 use sd_outside::TextBox;
@@ -274,29 +275,29 @@ pub(crate) fn audit_owned<K: Checker>(
 /// first, then whether the text is a token, and then the six parts of [`AuditError::Part`], in
 /// their order: the first that differs is answered.
 ///
-/// The signature is to be one that the checker accepts, by the algorithm of the
-/// name `alg`. Of a decoy no one can tell what it is made of, so its place and
+/// The signature is to be one that the checker accepts, and the header to name this
+/// algorithm. Of a decoy no one can tell what it is made of, so its place and
 /// its form are judged alone. `steps` counts the look-ups of digests.
 pub fn audit<K: Checker>(
     alloc: Global,
     order: &Order,
-    alg: &str,
+    alg: Alg,
     checker: &K,
     text: &[u8],
     steps: &mut Steps,
 ) -> Result<(), AuditError>
     requires depth { depth_of (tree_of order.now.payload) ≤ json_depth_max }
     ensures passes { OnOk result
-        (PassesAudit (order_of order.now) alg.now (K.good checker.now) text.now) }
+        (PassesAudit (order_of order.now) (alg_text alg) (K.good checker.now) text.now) }
     ensures refused { IfErr result
-        (IsAuditRefused (order_of order.now) alg.now (K.good checker.now) text.now) }
+        (IsAuditRefused (order_of order.now) (alg_text alg) (K.good checker.now) text.now) }
 
     // the look-ups
     ensures within { IsAuditedWithin (order_of order.now) text.now steps.old steps.new }
     ensures uncounted { (error : SeenError) → IsBeforeOpening error
-        → FailsAudit (order_of order.now) alg.now (K.good checker.now) text.now error
+        → FailsAudit (order_of order.now) (alg_text alg) (K.good checker.now) text.now error
         → steps.new ≡ steps.old }
 {
     let owned = order.copy(alloc)?;
-    audit_owned(alloc, owned, alg, checker, text, steps)
+    audit_owned(alloc, owned, alg.name(), checker, text, steps)
 }

@@ -13,11 +13,10 @@ ghost use Rattle.audit_core.specs.AuditSteps.{NamesHash, IsUnsalted, HasUnsalted
 
 use crate::json_parts::JsonPartReader;
 use claim_tree::{Tree, get};
-use digest_index::seed_of;
 use digest_sites::{Given, GivenList};
 use disclosure::{Disclosed, HashAlg, digest};
 use json_form::{Disclosures, TokenView};
-use rebuild_core::without_alg;
+use rebuild_core::{seed_of, without_alg};
 use sd_outside::NoMemory;
 use std::alloc::Global;
 
@@ -153,8 +152,8 @@ pub(crate) fn read_written(
     match read_given(alloc, hash, count, &mut reader, token.disclosures())? {
         Some(given) => Ok(Some(Written {
             body,
+            seed: seed_of(signed.signature, &given),
             given,
-            seed: seed_of(signed.signature),
         })),
         None => Ok(None),
     }

@@ -11,5 +11,5 @@ mod steps;
 mod tests;
 
 pub use index::DigestIndex;
-pub use seeded::{Seeded, seed_of};
+pub use seeded::Seeded;
 pub use steps::Steps;

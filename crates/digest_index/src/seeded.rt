@@ -26,12 +26,3 @@ impl BuildHasher for Seeded {
         self.start
     }
 }
-
-/// A seed for the digests of a signed token, which is drawn from its signature
-/// once this is checked. Who wrote the token can't know it while choosing the
-/// digests, since the signature is over them.
-pub fn seed_of(signature: &str) -> u64 {
-    let mut hasher = DefaultHasher::new();
-    hasher.write(signature.as_bytes());
-    hasher.finish()
-}

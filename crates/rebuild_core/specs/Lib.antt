@@ -18,3 +18,4 @@ pub mod AllShown
 pub mod Soundness
 pub mod LookUps
 pub mod Readable
+pub mod Seed

@@ -14,9 +14,11 @@ mod processing;
 mod readable;
 mod references;
 mod rows;
+mod seed;
 mod shown;
 mod unhidden;
 
 pub use errors::ProcessError;
 pub use processing::{DEPTH_MAX, process, process_payload, process_seeded};
+pub use seed::seed_of;
 pub use unhidden::without_alg;

@@ -125,9 +125,9 @@ pub fn process(
 }
 
 /// The same, of a payload and disclosures that are given away, where the
-/// digests are hashed with a seed. No answer depends on the seed, but who knows
-/// it can choose digests that are slow to look up together: who reads what
-/// others wrote gives one that they couldn't know when they chose the digests.
+/// digests are hashed with a seed. No answer depends on the seed, but anyone
+/// who knows it can choose digests that are slow to look up together. To read
+/// what others wrote, take a seed that depends on it, as [`seed_of`](crate::seed_of) gives.
 #[tactic(auto, using(crate::proofs::Size::processed_within))]
 pub fn process_seeded(
     alloc: Global,

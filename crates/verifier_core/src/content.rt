@@ -18,12 +18,12 @@ use crate::payload_reading::read_payload;
 use crate::token_checking::fails_at;
 use crate::{Rules, VerifyError};
 use claim_tree::Tree;
-use digest_index::{Steps, seed_of};
+use digest_index::Steps;
 use digest_sites::GivenList;
 use disclosure::{DisclosureReader, HashAlg};
 use json_form::TokenView;
 use marked_tree::Marked;
-use rebuild_core::{ProcessError, process_payload, process_seeded};
+use rebuild_core::{ProcessError, process_payload, process_seeded, seed_of};
 use refusals::Condition;
 use std::alloc::Global;
 use std::marker::Model;
@@ -114,7 +114,7 @@ impl Content {
             Ok(given) => given,
             Err(error) => return Err(error),
         };
-        let seed = seed_of(signed.signature);
+        let seed = seed_of(signed.signature, &given);
         Ok(Content {
             body,
             hash,

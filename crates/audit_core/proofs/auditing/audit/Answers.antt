@@ -1,6 +1,7 @@
 use Rattle.std.proofs.Common.{◌≡◌, ◌≤◌, sym, subst}
 use Rattle.std.specs.Result.{OnOk, IfErr}
 use Rattle.claim_tree.specs.Tree.{depth}
+use Rattle.hmac_sign.specs.Algs.{alg_text}
 use Rattle.audit_core.specs.Audit.{PassesAudit, FailsAudit}
 use Rattle.audit_core.specs.AuditCalls.{IsAuditRefused, IsAuditedWithin, IsBeforeOpening}
 use Rattle.audit_core.proofs.auditing.audit.Goals as goal
@@ -10,15 +11,15 @@ audit_owned-requires g c = record { depth = subst (λ o. depth o.payload ≤ 127
 
 pub returns-clause-passes : goal.returns-clause-passes
 returns-clause-passes g c =
-    subst (λ o. OnOk c.audit_owned.result (PassesAudit o c.args.alg.now (g.K.Signatures.good c.args.checker.now) c.args.text.now)) c.in_ok-owned.ensures c.audit_owned.ensures.passes
+    subst (λ o. OnOk c.audit_owned.result (PassesAudit o (alg_text c.args.alg) (g.K.Signatures.good c.args.checker.now) c.args.text.now)) c.in_ok-owned.ensures c.audit_owned.ensures.passes
 
 pub returns-clause-refused : goal.returns-clause-refused
 returns-clause-refused g c =
-    subst (λ o. IfErr c.audit_owned.result (IsAuditRefused o c.args.alg.now (g.K.Signatures.good c.args.checker.now) c.args.text.now)) c.in_ok-owned.ensures c.audit_owned.ensures.refused
+    subst (λ o. IfErr c.audit_owned.result (IsAuditRefused o (alg_text c.args.alg) (g.K.Signatures.good c.args.checker.now) c.args.text.now)) c.in_ok-owned.ensures c.audit_owned.ensures.refused
 
 pub returns-clause-within : goal.returns-clause-within
 returns-clause-within g c = subst (λ o. IsAuditedWithin o c.args.text.now c.args.steps.now c.audit_owned.new.steps) c.in_ok-owned.ensures c.audit_owned.ensures.within
 
 pub returns-clause-uncounted : goal.returns-clause-uncounted
 returns-clause-uncounted g c =
-    subst (λ o. (error : _) → IsBeforeOpening error → FailsAudit o c.args.alg.now (g.K.Signatures.good c.args.checker.now) c.args.text.now error → c.audit_owned.new.steps ≡ c.args.steps.now) c.in_ok-owned.ensures c.audit_owned.ensures.uncounted
+    subst (λ o. (error : _) → IsBeforeOpening error → FailsAudit o (alg_text c.args.alg) (g.K.Signatures.good c.args.checker.now) c.args.text.now error → c.audit_owned.new.steps ≡ c.args.steps.now) c.in_ok-owned.ensures c.audit_owned.ensures.uncounted
