@@ -1,6 +1,5 @@
 -- What a caller says of signatures that it checks itself, and which algorithms it takes.
-use Rattle.std.specs.Prelude.{◌≡◌, ℕ, ◌⊎◌, true, List, [], Option, Some, nat_eq, codes}
-use Rattle.std.specs.List.{starts_with}
+use Rattle.std.specs.Prelude.{◌≡◌, ℕ, ◌⊎◌, List, [], Option, Some, codes}
 use Rattle.b64url_text.specs.Base64url.{Decodes}
 use Rattle.claim_tree.specs.Tree.{Text}
 use Rattle.sd_outside.specs.Lists.{In}
@@ -11,13 +10,12 @@ pub record Caller : Type 0 where
   pub algs : List Text
   pub answer : Option SignatureAnswer
 
--- no name, `none`, or one of a shared key, for which a public key could be
--- taken (RFC 8725 section 3.1)
+-- no name, or `none`
 abbrev pub IsNeverTaken : Text → Type 0
-IsNeverTaken alg =
-    (alg ≡ []) ⊎ ((alg ≡ codes "none") ⊎ (starts_with nat_eq alg (codes "HS") ≡ true))
+IsNeverTaken alg = (alg ≡ []) ⊎ (alg ≡ codes "none")
 
--- signatures of the algorithm are not taken
+-- signatures of the algorithm are not taken; one of a shared key is, just where
+-- the caller's own list names it (RFC 8725 section 3.1)
 abbrev pub IsAlgUntaken : Caller → Text → Type 0
 IsAlgUntaken caller alg = IsNeverTaken alg ⊎ (In alg caller.algs → ⊥)
 

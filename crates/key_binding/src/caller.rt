@@ -19,13 +19,14 @@ pub enum SignatureAnswer {
 }
 
 /// A caller that checks signatures itself, where their keys are not held here:
-/// those of elliptic curves, say.
+/// those of elliptic curves, say, or shared ones beside them.
 #[derive(Clone, Copy)]
 pub struct Caller<'a> {
     /// The algorithms that it takes, by their names in RFC 7518 section 3.1 or
-    /// RFC 8037 section 3.1. The empty name, `none`, and names that begin with
-    /// `HS` are not taken even where they stand among them, so that nobody can
-    /// use a public key as a shared one (RFC 8725 section 3.1).
+    /// RFC 8037 section 3.1. The empty name and `none` are not taken even where
+    /// they stand among them. Who takes `HS256` beside others has to check it
+    /// under shared keys alone, so that nobody can use a public key as one (RFC
+    /// 8725 section 3.1).
     pub algs: &'a TextList,
     /// What it says of the signature, where it was asked.
     pub answer: Option<SignatureAnswer>,
@@ -35,7 +36,7 @@ pub struct Caller<'a> {
 fn is_never_taken(alg: &str) -> bool
     ensures { IsTrue result ↔ IsNeverTaken alg.now }
 {
-    alg.is_empty() || alg == "none" || alg.as_bytes().starts_with(b"HS")
+    alg.is_empty() || alg == "none"
 }
 
 impl Caller<'_> {

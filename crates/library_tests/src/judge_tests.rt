@@ -55,10 +55,27 @@ fn algs(alloc: Global, name: &str) -> Result<TextList, Fail> {
 }
 
 fn judged(alloc: Global, file: &str, holder_alg: &str, answers: Answers) -> Result<TextBox, Fail> {
+    judged_text(alloc, PRESENTED, file, holder_alg, answers)
+}
+
+fn judged_text(
+    alloc: Global,
+    text: &str,
+    file: &str,
+    holder_alg: &str,
+    answers: Answers,
+) -> Result<TextBox, Fail> {
     let policy = read_policy(alloc, file.as_bytes()).map_err(|_| "no policy")?;
     let algs = algs(alloc, holder_alg)?;
-    let text = PRESENTED.as_bytes();
-    match judge(alloc, text, &policy, &algs, NOW, answers, &mut Steps::new()) {
+    match judge(
+        alloc,
+        text.as_bytes(),
+        &policy,
+        &algs,
+        NOW,
+        answers,
+        &mut Steps::new(),
+    ) {
         Ok(judgement) => judgement_text(alloc, judgement),
         Err(JudgeError::NotAsked) => Ok(TextBox::make(alloc, "not asked")?),
         Err(JudgeError::Memory) => Err("no memory".into()),
@@ -122,6 +139,62 @@ fn an_answer_decides_its_condition(rt: HostRuntime) -> Result<(), Fail> {
             let found = judged(alloc, file, alg, *answers)?;
             assert_eq!(rt; found.as_str(), *wanted, "{answers:?}");
         }
+    }
+    Ok(())
+}
+
+// Two tokens with key binding tokens of HS256. The one is of HS256, and the other of `none`.
+const BY_SHARED: &str =
+    "eyJhbGciOiJIUzI1NiJ9.e30.AA~eyJhbGciOiJIUzI1NiIsInR5cCI6ImtiK2p3dCJ9.e30.AA";
+
+const BY_NONE: &str = "eyJhbGciOiJub25lIn0.e30.AA~eyJhbGciOiJIUzI1NiIsInR5cCI6ImtiK2p3dCJ9.e30.AA";
+
+// What is told of them under a policy, and an algorithm of holders: a list has to name HS256, and
+// no list can name `none`.
+const LISTED_TOLD: [(&str, &str, &str, Answers, &str); 5] = [
+    (
+        BY_SHARED,
+        BOUND,
+        "ES256",
+        Answers::Nothing,
+        "asks issuer HS256 1 24",
+    ),
+    (
+        BY_SHARED,
+        UNBOUND,
+        "HS256",
+        Answers::Nothing,
+        "refused 7 algRefused",
+    ),
+    (
+        BY_NONE,
+        BOUND,
+        "none",
+        Answers::Nothing,
+        "refused 7 algRefused",
+    ),
+    (
+        BY_SHARED,
+        BOUND,
+        "HS256",
+        Answers::Issuer(Good),
+        "asks holder HS256 1 44 {}",
+    ),
+    (
+        BY_SHARED,
+        BOUND,
+        "ES256",
+        Answers::Issuer(Good),
+        "refused 29 bindingAlg",
+    ),
+];
+
+#[test]
+fn an_algorithm_of_shared_keys_is_taken_where_a_list_names_it(rt: HostRuntime) -> Result<(), Fail> {
+    let alloc = rt.alloc();
+    for (text, file, alg, answers, wanted) in LISTED_TOLD {
+        let found = judged_text(alloc, text, file, alg, answers)?;
+        assert_eq!(rt; found.as_str(), wanted, "{alg} {answers:?}");
     }
     Ok(())
 }

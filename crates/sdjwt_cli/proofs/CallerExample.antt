@@ -68,8 +68,7 @@ holder_bytes head body signature is = AreBytes-text signature (subst IsUtf8 (sym
 -- the caller takes its algorithm
 taken : IsAlgUntaken (saying (es256 ∷ []) (Some SignatureAnswer.Good)) es256 → ⊥
 taken (inl (inl none)) = let clash : true ≡ false = ap (bytes_eq es256) none in cc clash
-taken (inl (inr (inl none))) = let clash : true ≡ false = ap (bytes_eq es256) none in cc clash
-taken (inl (inr (inr shared))) = cc shared
+taken (inl (inr none)) = let clash : true ≡ false = ap (bytes_eq es256) none in cc clash
 taken (inr none) = none (inl refl)
 
 -- ---- what is issued
