@@ -21,7 +21,7 @@ fn told(alloc: Global, hide: &str) -> Result<(Option<AuditError>, u64), Fail> {
     let found = audit(
         alloc,
         &order,
-        Alg::Hs256.name(),
+        Alg::Hs256,
         &key,
         TOKEN.as_bytes(),
         &mut steps,
