@@ -10,3 +10,4 @@ pub mod PickedNumbers
 pub mod OtherRules
 pub mod SignedLater
 pub mod UnsignedPresents
+mod AskedUncounted

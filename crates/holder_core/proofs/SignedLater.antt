@@ -175,6 +175,7 @@ module _ {F : Type 0} (answers : RuleAnswers F) (rule : F) (token : Token) (aske
     pub unsent_with_refused : (signature : List ℕ) → good unsigned.binding.protected unsigned.binding.payload signature → (e : PresentError) → IsUnsentWith unsigned signature e
         → IsNoAnswer answers rule token asked alg good now e
     unsent_with_refused signature signed Memory h = tt
+    unsent_with_refused signature signed SignFailed h = unsent_refused SignFailed tt
     unsent_with_refused signature signed TooLong h = record { answer = h.0; is_answer = signed_answer signature signed h.0 h.1; long = h.2 }
     unsent_with_refused signature signed _ h = absurd h
 

@@ -1,7 +1,7 @@
 -- Not needed to believe the program's promises: presenting in two steps, where
 -- a caller checks the issuer's signature and makes the holder's: what is asked,
 -- what is to be signed, and what is presented then.
-use Rattle.std.specs.Prelude.{◌≡◌, ◌<◌, ℕ, List, length, None, Some, Option, Result, Ok, Err}
+use Rattle.std.specs.Prelude.{◌≡◌, ◌<◌, ℕ, List, [], length, None, Some, Option, Result, Ok, Err}
 use Rattle.claim_tree.specs.Tree.{Text}
 use Rattle.claim_tree.specs.View.{tree_of}
 use Rattle.b64url_text.specs.Base64url.{IsWord}
@@ -29,7 +29,7 @@ use Rattle.holder_core.specs.Asked.{Asked, BindingAsked, caller_rules}
 use Rattle.holder_core.specs.Present.{shown_for, IsAgreed, NamesKey, PicksParts}
 use Rattle.holder_core.specs.declared.ask.CallerAsk.{CallerAsk}
 use Rattle.holder_core.specs.declared.errors.PresentError.{PresentError}
-use Rattle.holder_core.specs.declared.errors.PresentError.TheVariants.{Memory, TooLong}
+use Rattle.holder_core.specs.declared.errors.PresentError.TheVariants.{Memory, SignFailed, TooLong}
 use Rattle.holder_core.specs.declared.signing.Presentation.{Presentation}
 use Rattle.holder_core.specs.declared.signing.UnsignedPresentation.{UnsignedPresentation}
 
@@ -105,9 +105,10 @@ pub record IsSentBy (unsigned : UnsignedPresentation) (good : Meaning) (answer :
   pub with_it : IsSentWith unsigned signature answer
   pub signed : good unsigned.binding.protected unsigned.binding.payload signature
 
--- they are too long with this signature, or there is no memory
+-- the signature has no bytes, or they are too long with it; want of memory says nothing
 abbrev pub IsUnsentWith : UnsignedPresentation → List ℕ → PresentError → Type 0
 IsUnsentWith unsigned signature Memory = Unit {0}
+IsUnsentWith unsigned signature SignFailed = signature ≡ []
 IsUnsentWith unsigned signature TooLong =
     (answer : Parts) × IsSentWith unsigned signature answer
     × (compact_max < length (compact answer))
@@ -132,6 +133,11 @@ OnToSign _ P = Unit {0}
 abbrev pub OnPresented : Presentation → (Parts → Type 0) → Type 0
 OnPresented (Presentation.Presented parts) P = P parts
 OnPresented _ P = Unit {0}
+
+-- what is so where the token is opened: it is presented, or once it is signed
+abbrev pub OnPicked : Presentation → Type 0 → Type 0
+OnPicked (Presentation.AsksIssuer question) P = Unit {0}
+OnPicked _ P = P
 
 -- the caller is asked for the issuer's signature, unless there is no memory
 abbrev pub AsksOrNoMemory : Result Presentation PresentError → Type 0

@@ -25,7 +25,7 @@ pub enum PresentError {
     ConsentRefused(u32),
     /// 74: a key binding token is asked for, and what is shown does not name the key of the ask.
     BindingKeyDiffers,
-    /// The signer failed.
+    /// The signer failed, or gave a signature of no bytes.
     SignFailed,
     /// 75: the compact text has more than [`COMPACT_MAX`](compact_form::COMPACT_MAX) bytes.
     TooLong,

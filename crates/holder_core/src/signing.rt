@@ -1,5 +1,5 @@
 // Presenting in two steps, where the caller checks the issuer's signature and makes the holder's.
-ghost use Rattle.std.specs.Prelude.{◌≡◌, ◌⊎◌, ◌<◌, true, None, length, option_map, IfOk, OnOk, IfErr, IsErrOf};
+ghost use Rattle.std.specs.Prelude.{◌≡◌, ◌≢◌, ◌⊎◌, ◌<◌, true, None, length, option_map, IfOk, OnOk, IfErr, IsErrOf};
 ghost use Rattle.std.specs.Option.{is_some};
 ghost use Rattle.sd_outside.specs.Causes.{Rose};
 ghost use Rattle.sd_outside.specs.Limits.{compact_max};
@@ -10,13 +10,13 @@ ghost use Rattle.hmac_sign.specs.Agreement.{IsSameSigner};
 ghost use Rattle.json_form.specs.Token.{IsToken};
 ghost use Rattle.json_form.specs.declared.token.Token.{Token as SeenToken};
 ghost use Rattle.verifier_core.specs.Verdict.{TokenFails};
-ghost use Rattle.verifier_core.specs.Check.{IsSigned, IsCounted, IsCountedWithin, IsReadWithin, IsUncounted};
+ghost use Rattle.verifier_core.specs.Check.{IsSigned, IsCounted, IsReadCounted, IsCountedWithin, IsReadWithin, IsUncounted};
 ghost use Rattle.holder_core.specs.Asked.{asked_by_caller, alg_asked, caller_rules};
 ghost use Rattle.holder_core.specs.AskedSeen.{binding_seen};
 ghost use Rattle.holder_core.specs.Present.{IsAnswer, IsNoAnswer, IsPresented, IsNotPresented};
-ghost use Rattle.holder_core.specs.PresentCalls.{OnTokenFault};
+ghost use Rattle.holder_core.specs.PresentCalls.{OnTokenFault, PresentFails};
 ghost use Rattle.holder_core.specs.PresentSteps.{IsUnboundToken, IsShort, IsUnsigned, IsUnsignedOf, IsLongAlone, IsWithBinding, IsUnsent, OnUnsigned, IsSignedOrEarly, AsksOf};
-ghost use Rattle.holder_core.specs.ToSign.{none_good, AreUnsignedWords, IsIssuerAsked, AsksIssuer, IsToSign, IsToPresent, IsSentWith, IsSentBy, IsUnsentWith, OnAsksIssuer, OnToSign, OnPresented, AsksOrNoMemory};
+ghost use Rattle.holder_core.specs.ToSign.{none_good, AreUnsignedWords, IsIssuerAsked, AsksIssuer, IsToSign, IsToPresent, IsSentWith, IsSentBy, IsUnsentWith, OnAsksIssuer, OnToSign, OnPresented, OnPicked, AsksOrNoMemory};
 ghost use Rattle.holder_core.specs.declared.errors.PresentError.{PresentError};
 
 use crate::asked::{Asked, AskedBinding};
@@ -94,13 +94,18 @@ fn parts_with_binding(unbound: Parts, token: JwtParts) -> Result<Parts, PresentE
 
 impl UnsignedPresentation {
     /// What is presented, with these bytes as the signature of the key binding
-    /// token, whoever made them.
+    /// token, whoever made them. Where there are none, nobody signed: the answer is
+    /// [`PresentError::SignFailed`].
     pub fn signed(self, alloc: Global, signature: &[u8]) -> Result<Parts, PresentError>
         ensures sent { IfOk result (IsSentWith self signature.now) }
-        ensures words { AreUnsignedWords self → 0 < length signature.now → IfOk result AreWords }
+        ensures some { OnOk result (0 < length signature.now) }
+        ensures words { AreUnsignedWords self → IfOk result AreWords }
         ensures short { IfOk result IsShort }
         ensures refused { IfErr result (IsUnsentWith self signature.now) }
     {
+        if signature.is_empty() {
+            return Err(PresentError::SignFailed);
+        }
         let token = match self.binding.with_signature(alloc, signature) {
             Ok(token) => token,
             Err(NoMemory) => return Err(PresentError::Memory),
@@ -275,7 +280,13 @@ fn present_token<F: Fn(&Path) -> bool>(
         (IsNoAnswer F.Fn consent.now token.now (asked_by_caller ask.now answer)
         (alg_asked ask.now.binding) none_good now) }
     ensures no_signer { IsErrOf result PresentError.SignFailed → ⊥ }
+
+    // the look-ups
+    ensures counted { IfOk result (λ p. OnPicked p (IsCounted token.now steps.old steps.new)) }
+    ensures none_yet { IfOk result (λ p. OnAsksIssuer p (λ _. steps.new ≡ steps.old)) }
     ensures within { IsCountedWithin token.now steps.old steps.new }
+    ensures uncounted { IsUncounted (TokenFails token.now (caller_rules ask.now.algs answer))
+        steps.old steps.new }
 {
     let asked = Asked::by_caller(ask, answer);
     match unsigned_parts(alloc, token, &asked, holder_alg(ask), consent, now, steps) {
@@ -327,7 +338,13 @@ pub fn present_unsigned<F: Fn(&Path) -> bool>(
     ensures no_signer { IsErrOf result PresentError.SignFailed → ⊥ }
 
     // the look-ups
+    ensures counted { IfOk result (λ p. OnPicked p (IsReadCounted text.now steps.old steps.new)) }
+    ensures none_yet { IfOk result (λ p. OnAsksIssuer p (λ _. steps.new ≡ steps.old)) }
     ensures within { IsReadWithin text.now steps.old steps.new }
+    ensures uncounted { IsUncounted (PresentFails text.now (asked_by_caller ask.now answer))
+        steps.old steps.new }
+    ensures unopened { (token : SeenToken) → IsToken text.now token → token.parts.binding ≢ None
+        → steps.new ≡ steps.old }
 {
     let token = match read_unbound(alloc, text) {
         Ok(token) => token,

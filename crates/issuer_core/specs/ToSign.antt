@@ -1,6 +1,6 @@
 -- Not needed to believe the program's promises: issuing in two steps, what is to be signed for an
 -- order, and the token with a signature of anyone.
-use Rattle.std.specs.Prelude.{◌≡◌, ℕ, ◌+◌, ◌<◌, List, length, None}
+use Rattle.std.specs.Prelude.{◌≡◌, ℕ, ◌+◌, ◌<◌, List, [], length, None}
 use Rattle.std.specs.List.{AllByRecursion}
 use Rattle.b64url_text.specs.Base64url.{IsWord, b64}
 use Rattle.claim_tree.specs.Tree.{Text, Tree, object}
@@ -74,12 +74,13 @@ pub record IsTokenBy (token : UnsignedToken) (good : Meaning) (parts : Parts) : 
   pub some : 0 < length signature
   pub signed : good token.jwt.protected token.jwt.payload signature
 
--- it is too long with this signature; want of memory says nothing
-abbrev pub IsTokenTooLong : UnsignedToken → List ℕ → IssueError → Type 0
-IsTokenTooLong token signature Memory = Unit {0}
-IsTokenTooLong token signature TooLong =
+-- the signature has no bytes, or the token is too long with it; want of memory says nothing
+abbrev pub IsUnmadeWith : UnsignedToken → List ℕ → IssueError → Type 0
+IsUnmadeWith token signature Memory = Unit {0}
+IsUnmadeWith token signature SignFailed = signature ≡ []
+IsUnmadeWith token signature TooLong =
     (parts : Parts) × IsTokenWith token signature parts × (issue_max < length (compact parts))
-IsTokenTooLong token signature error = ⊥
+IsUnmadeWith token signature error = ⊥
 
 -- for private functions: nothing was signed, or it is too long with some good signature
 abbrev pub IsTokenUnmade : UnsignedToken → Meaning → IssueError → Type 0

@@ -11,7 +11,7 @@ use sd_outside::NoMemory;
 pub enum IssueError {
     /// There was no memory for the token.
     Memory,
-    /// The signer failed, where none of 51 to 60 applies.
+    /// The signer failed, or gave a signature of no bytes, where none of 51 to 60 applies.
     SignFailed,
     /// 51: the payload is no object.
     PayloadNotObject,

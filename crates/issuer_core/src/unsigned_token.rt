@@ -1,10 +1,10 @@
 // A token that is not signed yet.
-ghost use Rattle.std.specs.Prelude.{◌≡◌, ◌<◌, ◌≤◌, length, None, IfOk, IfErr, IsErrOf};
+ghost use Rattle.std.specs.Prelude.{◌≡◌, ◌<◌, ◌≤◌, length, None, IfOk, OnOk, IfErr, IsErrOf};
 ghost use Rattle.sd_outside.specs.Causes.{Rose};
 ghost use Rattle.sd_outside.specs.Limits.{issue_max};
 ghost use Rattle.compact_form.specs.Compact.{compact, AreWords};
 ghost use Rattle.hmac_sign.specs.Agreement.{IsSameSigner};
-ghost use Rattle.issuer_core.specs.ToSign.{AreUnsignedWords, IsTokenWith, IsTokenBy, IsTokenTooLong, IsTokenUnmade};
+ghost use Rattle.issuer_core.specs.ToSign.{AreUnsignedWords, IsTokenWith, IsTokenBy, IsUnmadeWith, IsTokenUnmade};
 ghost use Rattle.issuer_core.specs.declared.errors.IssueError.{IssueError};
 
 use crate::IssueError;
@@ -23,13 +23,18 @@ pub struct UnsignedToken {
 
 impl UnsignedToken {
     /// The token with these bytes as the issuer's signature, whoever made them: the compact parts
-    /// of an SD-JWT without a key binding token. It may be too long with them.
+    /// of an SD-JWT without a key binding token. It may be too long with them. Where there are no
+    /// bytes, nobody signed: the answer is [`IssueError::SignFailed`].
     pub fn signed(self, alloc: Global, signature: &[u8]) -> Result<Parts, IssueError>
         ensures signed { IfOk result (IsTokenWith self signature.now) }
-        ensures words { AreUnsignedWords self → 0 < length signature.now → IfOk result AreWords }
+        ensures some { OnOk result (0 < length signature.now) }
+        ensures words { AreUnsignedWords self → IfOk result AreWords }
         ensures short { IfOk result (λ parts. length (compact parts) ≤ issue_max) }
-        ensures refused { IfErr result (IsTokenTooLong self signature.now) }
+        ensures refused { IfErr result (IsUnmadeWith self signature.now) }
     {
+        if signature.is_empty() {
+            return Err(IssueError::SignFailed);
+        }
         let signed = self.jwt.with_signature(alloc, signature)?;
         within_limit(token_of(signed, self.disclosures))
     }

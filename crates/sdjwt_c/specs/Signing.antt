@@ -13,7 +13,7 @@ use Rattle.issuer_core.specs.declared.unsigned_token.UnsignedToken.{UnsignedToke
 use Rattle.issuer_core.specs.Order.{Order, order_of}
 use Rattle.issuer_core.specs.RefusalLine.{issue_refusal_text}
 use Rattle.issuer_core.specs.Seed.{maker_of}
-use Rattle.issuer_core.specs.ToSign.{IsToSign, IsNotToSign, IsTokenWith, IsTokenTooLong}
+use Rattle.issuer_core.specs.ToSign.{IsToSign, IsNotToSign, IsTokenWith, IsUnmadeWith}
 use Rattle.issuer_core.specs.UnsignedOrder.{IsUnsignedOrderFile, IsUnsignedOrderRefused}
 use Rattle.sd_outside.specs.Limits.{seed_len}
 
@@ -87,7 +87,7 @@ pub record IsTokenLine (token : UnsignedToken) (signature text : List ℕ) : Typ
 pub record IsOverlongLine (token : UnsignedToken) (signature text : List ℕ) : Type 0 where
   pub error : IssueError
   pub other : error ≢ Memory
-  pub long : IsTokenTooLong token signature error
+  pub long : IsUnmadeWith token signature error
   pub line_is : text ≡ line (issue_refusal_text error)
 
 -- what is so of what is to be signed for the files

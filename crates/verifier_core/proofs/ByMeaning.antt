@@ -51,7 +51,7 @@ at_nowhere : (FailsSo : Condition → Place → Type 0) (c : Condition) (place :
 at_nowhere FailsSo c place passes there h = refuse_unplaced FailsSo c (fault_at c place) (ap (fault_at c) there) passes (subst (FailsSo c) there h)
 
 -- a condition on a token fails of a token that the text is
-token_site : (text : List ℕ) (policy : Policy) (algs : List Text) (now : ℕ) (answers : Answers) (c : Condition) (place : Place) → 4 < number_of c → number_of c < 22
+pub token_site : (text : List ℕ) (policy : Policy) (algs : List Text) (now : ℕ) (answers : Answers) (c : Condition) (place : Place) → 4 < number_of c → number_of c < 22
     → FailsFor text (caller_demands policy algs answers) now c place → (token : Token) × IsToken text token × TokenFails token (caller_demands policy algs answers).rules c place
 token_site text policy algs now answers c place high low (of_file h) = let number = file_numbers text c place h in absurd (omega (arith, high, number))
 token_site text policy algs now answers c place high low (of_missing t is h) = let number = ap number_of h.0 in absurd (omega (arith, high, number))

@@ -41,17 +41,17 @@ module _ (k : Case) (token : Token) (hash : HashAlg) where
     lowest : IsLowest (TokenFails token (demands_in k).rules) fault
     lowest = at_fault error fault (IsLowest (TokenFails token (demands_in k).rules)) at tried.refused
 
-    low : fault.number < 27
-    low = let numbers = token_numbers token (demands_in k).rules (failed_of fault) fault.place lowest.fails in omega (arith, numbers.1, fault.of_condition.1)
+    pub unopened_low : fault.number < 27
+    unopened_low = let numbers = token_numbers token (demands_in k).rules (failed_of fault) fault.place lowest.fails in omega (arith, numbers.1, fault.of_condition.1)
 
     pub unopened_lowest : IsLowest (fails_in k) fault
     unopened_lowest = token_lowest k.text.now (demands_in k) k.now token tried.is_token tried.sent fault lowest
 
     pub unopened_needed : IsNeededAt k.answers fault.number → WasAskedIn k
-    unopened_needed = needed_below k.text.now (demands_in k) k.now fault unopened_lowest token tried.is_token k.answers (signed_text k.policy.now k.binding_algs.now k.answers token tried.signed) low
+    unopened_needed = needed_below k.text.now (demands_in k) k.now fault unopened_lowest token tried.is_token k.answers (signed_text k.policy.now k.binding_algs.now k.answers token tried.signed) unopened_low
 
     pub unopened_done : IsAskedNextIn k → ⊥
-    unopened_done = done_below k.text.now (demands_in k) k.now fault unopened_lowest k.answers (said_good k.answers (not_unsaid k.policy.now k.binding_algs.now k.answers token tried.signed)) low
+    unopened_done = done_below k.text.now (demands_in k) k.now fault unopened_lowest k.answers (said_good k.answers (not_unsaid k.policy.now k.binding_algs.now k.answers token tried.signed)) unopened_low
 
   -- it is opened
   module _ (payload : owned.Tree) (tried : IsTried k.text.now (demands_in k) token hash (Ok payload)) (demands : Demands) (same : demands ≡ demands_in k) where

@@ -1,6 +1,6 @@
 -- What is answered where a caller checks the signatures, from what was to be known.
 use Rattle.std.specs.Prelude.{IfOk, IsOk}
-use Rattle.std.proofs.Common.{◌≡◌, ℕ, List, None, Result, Ok, Err, refl, sym, subst, arith}
+use Rattle.std.proofs.Common.{◌≡◌, ◌<◌, ℕ, List, None, Result, Ok, Err, refl, sym, subst, arith}
 use Rattle.claim_tree.specs.Tree.{Text}
 use Rattle.claim_tree.specs.View.{tree_of}
 use Rattle.claim_tree.specs.declared.tree.Tree as owned
@@ -10,7 +10,7 @@ use Rattle.refusals.specs.Faults.{failed_of}
 use Rattle.json_form.specs.Token.{IsToken}
 use Rattle.json_form.specs.declared.token.Token.{Token}
 use Rattle.key_binding.specs.declared.caller.SignatureAnswer.{SignatureAnswer}
-use Rattle.verifier_core.specs.Asking.{WasAsked, IsAskedNext, IsJudged, IsDone, AsksIssuer, AsksHolder, AreSaidGood, IsAcceptedForAs, caller_demands, OnAccepted, OnRefused, OnAsksIssuer, OnAsksHolder}
+use Rattle.verifier_core.specs.Asking.{WasAsked, IsAskedNext, IsJudged, IsDone, AsksIssuer, AsksHolder, AreSaidGood, IsAcceptedForAs, caller_demands, OnAccepted, OnRefused, OnAsksIssuer, OnAsksHolder, OnOpened}
 use Rattle.verifier_core.specs.AskingSteps.{demands_in, fails_in, WasAskedIn}
 use Rattle.verifier_core.specs.Check.{IsSigned}
 use Rattle.verifier_core.specs.Verdict.{Demands, FailsFor, Opens}
@@ -21,7 +21,7 @@ use Rattle.verifier_core.specs.declared.asking.Judgement.{Judgement}
 use Rattle.verifier_core.specs.declared.asking.Question.{Question}
 use Rattle.verifier_core.specs.declared.policy.Policy.{Policy}
 use Rattle.verifier_core.specs.declared.token_checking.VerifyError.{VerifyError}
-use Rattle.verifier_core.proofs.Asked.{SaidGood, said_issuer, issuer_asked, done_below, one_read, signed_text, not_unsaid, said_good}
+use Rattle.verifier_core.proofs.Asked.{SaidGood, said_issuer, issuer_asked, done_below, passed, one_read, signed_text, not_unsaid, said_good}
 use Rattle.verifier_core.proofs.HolderAsked.{accepted_needed, accepted_done, accepted_good}
 
 module _ (text : List ℕ) (demands : Demands) (now : ℕ) (answers : Answers) where
@@ -104,28 +104,57 @@ judged_good text policy algs now answers token payload is signed (marked, accept
 
 -- ---- the look-ups
 
--- what is so where the payload is opened is so where a token is accepted
-pub accepted_opened : {A : Type 0} (result : Result Judgement JudgeError) (opened : Result A VerifyError) (P : Type 0) → IfOk result (λ j. OnAccepted j (λ _. IsOk opened)) → IfOk opened (λ _. P) → IfOk result (λ j. OnAccepted j (λ _. P))
-accepted_opened (Ok (Judgement.Accepted payload)) (Ok shown) P is h = h
-accepted_opened (Ok (Judgement.Accepted payload)) (Err error) P is h = cc is
-accepted_opened (Ok (Judgement.Refused fault)) opened P is h = tt
-accepted_opened (Ok (Judgement.AsksIssuer question)) opened P is h = tt
-accepted_opened (Ok (Judgement.AsksHolder question payload)) opened P is h = tt
-accepted_opened (Err error) opened P is h = tt
+-- what is so where the payload is opened is so of a token that is opened
+pub opened_so : {A : Type 0} (result : Result Judgement JudgeError) (opened : Result A VerifyError) (P : Type 0)
+    → IfOk result (λ j. OnOpened j (IsOk opened)) → IfOk opened (λ _. P) → IfOk result (λ j. OnOpened j P)
+opened_so (Ok (Judgement.Accepted payload)) (Ok shown) P is h = h
+opened_so (Ok (Judgement.Accepted payload)) (Err error) P is h = cc is
+opened_so (Ok (Judgement.AsksHolder question payload)) (Ok shown) P is h = h
+opened_so (Ok (Judgement.AsksHolder question payload)) (Err error) P is h = cc is
+opened_so (Ok (Judgement.Refused fault)) opened P is h = tt
+opened_so (Ok (Judgement.AsksIssuer question)) opened P is h = tt
+opened_so (Err error) opened P is h = tt
 
--- what is so is so where a token is accepted
-pub where_accepted : (result : Result Judgement JudgeError) (P : Type 0) → P → IfOk result (λ j. OnAccepted j (λ _. P))
-where_accepted (Ok (Judgement.Accepted payload)) P h = h
-where_accepted (Ok (Judgement.Refused fault)) P h = tt
-where_accepted (Ok (Judgement.AsksIssuer question)) P h = tt
-where_accepted (Ok (Judgement.AsksHolder question payload)) P h = tt
-where_accepted (Err error) P h = tt
+-- what is so is so where a token is opened
+pub where_opened : (result : Result Judgement JudgeError) (P : Type 0) → P → IfOk result (λ j. OnOpened j P)
+where_opened (Ok (Judgement.Accepted payload)) P h = h
+where_opened (Ok (Judgement.AsksHolder question payload)) P h = h
+where_opened (Ok (Judgement.Refused fault)) P h = tt
+where_opened (Ok (Judgement.AsksIssuer question)) P h = tt
+where_opened (Err error) P h = tt
 
--- no token is accepted of which a condition fails
-pub not_accepted : (text : List ℕ) (demands : Demands) (now : ℕ) (answers : Answers) (fault : Fault) → IsLowest (FailsFor text demands now) fault
-    → (result : Result Judgement JudgeError) (P : Type 0) → IsJudged text demands now answers result → IfOk result (λ j. OnAccepted j (λ _. P))
-not_accepted text demands now answers fault l (Ok (Judgement.Accepted payload)) P judged = absurd (judged.accepted.1.passes (failed_of fault) fault.place l.fails)
-not_accepted text demands now answers fault l (Ok (Judgement.Refused other)) P judged = tt
-not_accepted text demands now answers fault l (Ok (Judgement.AsksIssuer question)) P judged = tt
-not_accepted text demands now answers fault l (Ok (Judgement.AsksHolder question payload)) P judged = tt
-not_accepted text demands now answers fault l (Err error) P judged = tt
+-- no token is opened of which a condition below 27 fails
+pub not_opened : (text : List ℕ) (demands : Demands) (now : ℕ) (answers : Answers) (fault : Fault)
+    → IsLowest (FailsFor text demands now) fault → fault.number < 27
+    → (result : Result Judgement JudgeError) (P : Type 0) → IsJudged text demands now answers result
+    → IfOk result (λ j. OnOpened j P)
+not_opened text demands now answers fault l low (Ok (Judgement.Accepted payload)) P judged =
+    absurd (judged.accepted.1.passes (failed_of fault) fault.place l.fails)
+not_opened text demands now answers fault l low (Ok (Judgement.AsksHolder question payload)) P judged =
+    let high = passed text demands now fault l 27 judged.asks_holder.asked.passes in absurd (omega (arith, low, high))
+not_opened text demands now answers fault l low (Ok (Judgement.Refused other)) P judged = tt
+not_opened text demands now answers fault l low (Ok (Judgement.AsksIssuer question)) P judged = tt
+not_opened text demands now answers fault l low (Err error) P judged = tt
+
+-- the issuer's signature is not asked for where it is good
+pub not_issuer : (text : List ℕ) (policy : Policy) (algs : List Text) (now : ℕ) (answers : Answers) (token : Token)
+    → IsSigned token.parts.signed token.outer (caller_demands policy algs answers).rules
+    → (result : Result Judgement JudgeError) (P : Question → Type 0)
+    → IsJudged text (caller_demands policy algs answers) now answers result
+    → IfOk result (λ j. OnAsksIssuer j P)
+not_issuer text policy algs now answers token signed (Ok (Judgement.AsksIssuer question)) P judged =
+    let said = said_good answers (not_unsaid policy algs answers token signed) in
+    let good : SaidGood Answers.Nothing = subst SaidGood judged.asks_issuer.unsaid said in
+    cc good
+not_issuer text policy algs now answers token signed (Ok (Judgement.Accepted payload)) P judged = tt
+not_issuer text policy algs now answers token signed (Ok (Judgement.AsksHolder question payload)) P judged = tt
+not_issuer text policy algs now answers token signed (Ok (Judgement.Refused fault)) P judged = tt
+not_issuer text policy algs now answers token signed (Err error) P judged = tt
+
+-- what is so is so where the issuer's signature is asked for
+pub where_issuer : (result : Result Judgement JudgeError) (P : Type 0) → P → IfOk result (λ j. OnAsksIssuer j (λ _. P))
+where_issuer (Ok (Judgement.AsksIssuer question)) P h = h
+where_issuer (Ok (Judgement.Accepted payload)) P h = tt
+where_issuer (Ok (Judgement.AsksHolder question payload)) P h = tt
+where_issuer (Ok (Judgement.Refused fault)) P h = tt
+where_issuer (Err error) P h = tt

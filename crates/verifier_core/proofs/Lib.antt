@@ -23,3 +23,4 @@ pub mod JudgeSteps
 mod HeaderSaid
 mod Answered
 pub mod ByMeaning
+mod StaysAsked

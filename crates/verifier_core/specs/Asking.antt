@@ -115,6 +115,13 @@ abbrev pub OnAsksHolder : Judgement → (Question → Tree → Type 0) → Type 
 OnAsksHolder (Judgement.AsksHolder question payload) P = P question (tree_of payload)
 OnAsksHolder _ P = Unit {0}
 
+-- what is so where the token is opened: it is accepted, or its processed payload is handed out
+-- with the question about the holder's signature
+abbrev pub OnOpened : Judgement → Type 0 → Type 0
+OnOpened (Judgement.Accepted payload) P = P
+OnOpened (Judgement.AsksHolder question payload) P = P
+OnOpened _ P = Unit {0}
+
 -- the text is accepted with this payload
 abbrev pub IsAcceptedForAs : List ℕ → Demands → ℕ → Tree → Type 0
 IsAcceptedForAs text demands now payload =

@@ -7,5 +7,6 @@ pub mod Content
 pub mod Check
 pub mod Asking
 pub mod AskingSteps
+pub mod StaysAsked
 pub mod Meanings
 pub mod Verdicts

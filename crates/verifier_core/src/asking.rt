@@ -9,7 +9,7 @@ ghost use Rattle.jws_part.specs.Header.{IsHeaderUnreadable, IsHeaderCritical};
 ghost use Rattle.key_binding.specs.JudgedSteps.{rules_seen};
 ghost use Rattle.verifier_core.specs.Verdict.{FailsFor};
 ghost use Rattle.verifier_core.specs.Check.{IsUnopened, IsSigned, IsCounted, IsReadCounted, IsCountedWithin, IsReadWithin, IsUncounted};
-ghost use Rattle.verifier_core.specs.Asking.{caller_demands as demands_of_caller, asked_rules, issuer_answer as issuer_answer_of, holder_answer as holder_answer_of, OnAccepted, OnRefused, OnAsksIssuer, OnAsksHolder, IsQuestion, IsAcceptedForAs, AreSaidGood, AsksIssuer, AsksHolder, WasAsked, IsAskedNext, IsDone, IsNeededAt, IsEarlyOrSigned, IsOpenedAs};
+ghost use Rattle.verifier_core.specs.Asking.{caller_demands as demands_of_caller, asked_rules, issuer_answer as issuer_answer_of, holder_answer as holder_answer_of, OnAccepted, OnRefused, OnAsksIssuer, OnAsksHolder, OnOpened, IsQuestion, IsAcceptedForAs, AreSaidGood, AsksIssuer, AsksHolder, WasAsked, IsAskedNext, IsDone, IsNeededAt, IsEarlyOrSigned, IsOpenedAs};
 ghost use Rattle.verifier_core.specs.AskingSteps.{demands_in, fails_in, WasAskedIn, IsAskedNextIn, IsJudgedIn, IsTried, FailsAt};
 ghost use Rattle.claim_tree.specs.Tree.{no_members};
 ghost use Rattle.verifier_core.specs.declared.asking.JudgeError as unjudged;
@@ -393,7 +393,7 @@ fn judge_opened(
 ) -> Result<Judgement, JudgeError>
     requires tried { IsTried case.text.now (demands_in case) token.now hash opened }
     ensures judged { IsJudgedIn case.entry result }
-    ensures opened { IfOk result (λ j. OnAccepted j (λ _. IsOk opened)) }
+    ensures opened { IfOk result (λ j. OnOpened j (IsOk opened)) }
 {
     let payload = match opened {
         Ok(payload) => payload,
@@ -421,8 +421,8 @@ fn judge_token(
     ensures judged { IsJudgedIn case.entry result }
 
     // the look-ups
-    ensures counted { IfOk result
-        (λ j. OnAccepted j (λ _. IsCounted token.now steps.old steps.new)) }
+    ensures counted { IfOk result (λ j. OnOpened j (IsCounted token.now steps.old steps.new)) }
+    ensures none_yet { IfOk result (λ j. OnAsksIssuer j (λ _. steps.new ≡ steps.old)) }
     ensures within { IsCountedWithin token.now steps.old steps.new }
     ensures uncounted { IsUncounted (fails_in case.entry) steps.old steps.new }
 {
@@ -494,8 +494,8 @@ pub fn judge(
         → ⊥ }
 
     // the look-ups
-    ensures counted { IfOk result
-        (λ j. OnAccepted j (λ _. IsReadCounted text.now steps.old steps.new)) }
+    ensures counted { IfOk result (λ j. OnOpened j (IsReadCounted text.now steps.old steps.new)) }
+    ensures none_yet { IfOk result (λ j. OnAsksIssuer j (λ _. steps.new ≡ steps.old)) }
     ensures within { IsReadWithin text.now steps.old steps.new }
     ensures uncounted { IsUncounted
         (FailsFor text.now (demands_of_caller policy.now binding_algs.now answers) now) steps.old

@@ -16,6 +16,7 @@ ghost use Rattle.verifier_core.specs.VersionTwo.{SaysInTwo};
 ghost use Rattle.verifier_core.specs.Meanings.{meanings, AcceptedByMeaning, RefusedByMeaning, OneVerdictByMeaning, AnsweredByMeaning};
 ghost use Rattle.verifier_core.specs.Verdict.{Fails, IsAccepted};
 ghost use Rattle.verifier_core.specs.Verdicts.{HaveOneVerdict};
+ghost use Rattle.verifier_core.specs.StaysAsked.{IssuerStaysAsked, HolderStaysAsked};
 ghost use Rattle.refusals.specs.Lowest.{IsLowest};
 ghost use Rattle.verifier_core.specs.declared.policy.Policy.{Policy};
 
@@ -87,4 +88,12 @@ pub fn judged_by_meaning<I: Checker, H: Checker>()
     ensures one_verdict { (issuer : I) (holder : Tree → H)
         → OneVerdictByMeaning (meanings (I.good issuer) (λ payload. H.good (holder payload))) }
     ensures answered { (issuer : I) → AnsweredByMeaning (I.good issuer) }
+{}
+
+/// What a caller is asked stays asked for: who answers a question of [`judge`](crate::judge), about
+/// the issuer's signature or the holder's, and calls again with the same text, policy, algorithms
+/// and moment, is not told [`NotAsked`](crate::JudgeError::NotAsked), whatever the answer is.
+pub fn answers_were_asked()
+    ensures issuer { IssuerStaysAsked }
+    ensures holder { HolderStaysAsked }
 {}

@@ -1,8 +1,8 @@
 use Rattle.std.proofs.Common.{refl, sym, subst}
 use Rattle.std.specs.Prelude.{IsOk}
 use Rattle.verifier_core.specs.AskingSteps.{demands_in, IsTried}
-use Rattle.verifier_core.proofs.Judgements.{where_accepted, not_accepted}
-use Rattle.verifier_core.proofs.JudgeSteps.{unopened_lowest, unopened_needed, unopened_done, shown_accepted, shown_lowest, shown_opened}
+use Rattle.verifier_core.proofs.Judgements.{where_opened, not_opened}
+use Rattle.verifier_core.proofs.JudgeSteps.{unopened_low, unopened_lowest, unopened_needed, unopened_done, shown_accepted, shown_lowest, shown_opened}
 use Rattle.verifier_core.proofs.asking.judge_opened.Goals as goal
 
 pub refused-requires : goal.refused-requires
@@ -46,10 +46,11 @@ returns-in-Err-clause-opened c =
     let k = c.args.case in
     let tried = subst (IsTried k.text.now (demands_in k) c.args.token.now c.args.hash) c.in-Err.is c.requires.tried in
     let lowest = unopened_lowest k c.args.token.now c.args.hash c.in-Err.error c.in_ok-fault_of-in-Err.field-0 c.in_ok-fault_of-in-Err.ensures tried in
-    not_accepted k.text.now (demands_in k) k.now k.answers c.in_ok-fault_of-in-Err.field-0 lowest c.refused.result (IsOk c.args.opened) c.refused.ensures
+    let low = unopened_low k c.args.token.now c.args.hash c.in-Err.error c.in_ok-fault_of-in-Err.field-0 c.in_ok-fault_of-in-Err.ensures tried in
+    not_opened k.text.now (demands_in k) k.now k.answers c.in_ok-fault_of-in-Err.field-0 lowest low c.refused.result (IsOk c.args.opened) c.refused.ensures
 
 pub returns-in-Ok-check_shown-clause-opened : goal.returns-in-Ok-check_shown-clause-opened
-returns-in-Ok-check_shown-clause-opened c = where_accepted c.accepted.result _ (subst IsOk (sym c.in-Ok.is) refl)
+returns-in-Ok-check_shown-clause-opened c = where_opened c.accepted.result _ (subst IsOk (sym c.in-Ok.is) refl)
 
 pub returns-in_ok-fault_of-in-Err-check_shown-clause-opened : goal.returns-in_ok-fault_of-in-Err-check_shown-clause-opened
-returns-in_ok-fault_of-in-Err-check_shown-clause-opened c = where_accepted c.on_shown.result _ (subst IsOk (sym c.in-Ok.is) refl)
+returns-in_ok-fault_of-in-Err-check_shown-clause-opened c = where_opened c.on_shown.result _ (subst IsOk (sym c.in-Ok.is) refl)

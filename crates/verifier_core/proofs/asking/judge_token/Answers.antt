@@ -1,11 +1,11 @@
-use Rattle.std.proofs.Common.{subst}
+use Rattle.std.proofs.Common.{refl, subst, arith}
 use Rattle.refusals.specs.Lowest.{IsLowest}
 use Rattle.verifier_core.specs.AskingSteps.{demands_in, IsTried}
-use Rattle.verifier_core.specs.Check.{IsUncounted}
+use Rattle.verifier_core.specs.Check.{IsSigned, IsUncounted, IsUnopened}
 use Rattle.verifier_core.specs.Verdict.{Demands, FailsFor}
 use Rattle.verifier_core.proofs.Verdicts.{few}
 use Rattle.verifier_core.proofs.Contents.{read_uncounted}
-use Rattle.verifier_core.proofs.Judgements.{accepted_opened, not_accepted}
+use Rattle.verifier_core.proofs.Judgements.{opened_so, not_opened, not_issuer, where_issuer}
 use Rattle.verifier_core.proofs.JudgeSteps.{at_fault}
 use Rattle.verifier_core.proofs.asking.judge_token.Goals as goal
 
@@ -34,7 +34,15 @@ judge_opened-requires c =
 pub returns-in-Ok-clause-counted : goal.returns-in-Ok-clause-counted
 returns-in-Ok-clause-counted c =
     let opening = c.open_payload-opened.ensures.opened c.args.token.now c.caller_demands-demands.result.rules c.in-Ok.ensures.content in
-    accepted_opened c.judge_opened.result c.open_payload-opened.result _ c.judge_opened.ensures.opened opening.counted
+    opened_so c.judge_opened.result c.open_payload-opened.result _ c.judge_opened.ensures.opened opening.counted
+
+-- the issuer's signature is good, so it is not asked for
+pub returns-in-Ok-clause-none_yet : goal.returns-in-Ok-clause-none_yet
+returns-in-Ok-clause-none_yet c =
+    let k = c.args.case in
+    let token = c.args.token.now in
+    let signed = subst (λ (d : Demands). IsSigned token.parts.signed token.outer d.rules) c.caller_demands-demands.ensures c.in-Ok.ensures.signed in
+    not_issuer k.text.now k.policy.now k.binding_algs.now k.now k.answers token signed c.judge_opened.result _ c.judge_opened.ensures.judged
 
 pub returns-in-Ok-clause-within : goal.returns-in-Ok-clause-within
 returns-in-Ok-clause-within c = (c.open_payload-opened.ensures.opened c.args.token.now c.caller_demands-demands.result.rules c.in-Ok.ensures.content).within
@@ -53,4 +61,8 @@ returns-clause-counted c =
     let demands = c.caller_demands-demands.result in
     let fault = c.in_ok-fault_of-in-Err.field-0 in
     let refused = at_fault c.in-Err.error fault (IsLowest (FailsFor k.text.now demands k.now)) c.in_ok-fault_of-in-Err.ensures (c.in-Err.ensures.refused k.text.now k.now c.requires.token) in
-    not_accepted k.text.now (demands_in k) k.now k.answers fault (subst (λ (d : Demands). IsLowest (FailsFor k.text.now d k.now) fault) c.caller_demands-demands.ensures refused) c.on_content.result _ c.on_content.ensures
+    let low = at_fault c.in-Err.error fault IsUnopened c.in_ok-fault_of-in-Err.ensures c.in-Err.ensures.unopened in
+    not_opened k.text.now (demands_in k) k.now k.answers fault (subst (λ (d : Demands). IsLowest (FailsFor k.text.now d k.now) fault) c.caller_demands-demands.ensures refused) (omega (arith, low)) c.on_content.result _ c.on_content.ensures
+
+pub returns-clause-none_yet : goal.returns-clause-none_yet
+returns-clause-none_yet c = where_issuer c.on_content.result _ refl
