@@ -42,19 +42,29 @@ skip() { echo "documents.sh: skipped: $1"; }
 
 has() { command -v "$1" >/dev/null; }
 
-# The command that proves, from its first line, with another rt: one that finds all proved, and runs what is built.
+# The command that proves, from its first line, in a copy of the folder in which nothing is built, with another rt: one
+# that finds each library proved, and for the program takes the one that is built. So nothing here gets a record of it.
 demo_from_nothing() {
-    mkdir "$made/other"
-    cat >"$made/other/rt" <<'END'
+    copy=$made/copy
+    mkdir -p "$made/other" "$copy/release"
+    cp -R crates.txt examples prove.sh "$copy/"
+    cp release/record.py "$copy/release/"
+    for crate in crates/*/; do mkdir -p "$copy/$crate/src"; done
+    : >"$copy/crates/sdjwt/src/main.rt"
+    cat >"$made/other/rt" <<END
 #!/bin/sh
-case $1 in
-    all) printf '== sdjwt\nlogic=proved\n== summary\n1 of 1 crates ok\n' ;;
-    run) shift; [ "${1-}" != -- ] || shift; "out/$(basename "$(pwd)")" "$@" ;;
+case \$1 in
+    lib) ;;
+    run) cp "$SDJWT" out/sdjwt && out/sdjwt ;;
+    version | doc) exit 1 ;;
+    *) echo "another word: \$*" >&2; exit 1 ;;
 esac
 END
     chmod +x "$made/other/rt"
-    SDJWT='' PATH=$made/other:$PATH sh examples/demo.sh >"$made/demo" 2>&1 || { cat "$made/demo" && return 1; }
-    tail -n 1 "$made/demo" | grep '^The program is '
+    SDJWT='' PATH=$made/other:$PATH sh "$copy/examples/demo.sh" >"$made/demo" 2>&1 ||
+        { cat "$made/demo" && return 1; }
+    tail -n 1 "$made/demo" | grep '^The program is ' && cmp "$SDJWT" "$copy/crates/sdjwt/out/sdjwt" &&
+        grep -x 'proved: no: there is no kit' "$copy/crates/sdjwt/out/record"
 }
 
 # documents and sources
@@ -79,11 +89,7 @@ fi
 # sdjwt
 [ -x "$SDJWT" ] || { echo "documents.sh: there is no program $SDJWT: build it with sh examples/demo.sh" >&2 && exit 1; }
 holds sh examples/demo.sh
-if [ "$SDJWT" = "$top/crates/sdjwt/out/sdjwt" ]; then
-    holds demo_from_nothing
-else
-    skip 'demo.sh from its first line, which takes the program of crates/sdjwt'
-fi
+holds demo_from_nothing
 holds sh examples/refusals.sh
 if has python3; then
     holds python3 examples/walk.py sdjwt
