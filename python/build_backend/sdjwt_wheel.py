@@ -12,6 +12,7 @@ is always the same.
 import base64
 import hashlib
 import importlib.util
+import io
 import json
 import os
 import platform
@@ -25,6 +26,8 @@ HERE = Path(__file__).resolve().parent.parent
 LIBRARY = "libsdjwt.so"
 RECORDED = "sha256 c/out/lib/libsdjwt.so.1"
 LICENCES = ("LICENSE-APACHE", "LICENSE-MIT")
+# The notices of what is linked into the library.
+NOTICES = "THIRD-PARTY.txt"
 TAG = "py3-none"
 # the beginning of 2020
 FIRST_DATE = 1_577_836_800
@@ -56,14 +59,25 @@ def _licence(name):
     return next(path for path in (HERE / name, HERE.parent / name) if path.is_file())
 
 
+def _of_release(name):
+    """A module of the folder release, which stands in the repository and in no source distribution."""
+    source = importlib.util.spec_from_file_location(f"sdjwt_{name}", HERE.parent / f"release/{name}.py")
+    module = importlib.util.module_from_spec(source)
+    source.loader.exec_module(module)
+    return module
+
+
+def _notices():
+    """The notices, which a source distribution has as a file."""
+    kept = HERE / NOTICES
+    return kept.read_bytes() if kept.is_file() else _of_release("linked").notices().encode()
+
+
 def _record():
     """What the record of c/build.sh says, by its names, and nothing where there is none that is whole."""
-    reader = HERE.parent / "release/record.py"
-    if not reader.is_file():
+    if not (HERE.parent / "c/out/record").is_file():
         return {}
-    source = importlib.util.spec_from_file_location("sdjwt_record", reader)
-    record = importlib.util.module_from_spec(source)
-    source.loader.exec_module(record)
+    record = _of_release("record")
     try:
         return record.read(HERE.parent / "c/out/record")
     except record.Fault:
@@ -99,12 +113,14 @@ def _files():
     found[f"{info}/METADATA"] = (
         f"Metadata-Version: 2.4\nName: sdjwt\nVersion: {_version()}\nSummary: {_field('description')}\n"
         f"License-Expression: {_field('license')}\nLicense-File: LICENSE-APACHE\nLicense-File: LICENSE-MIT\n"
+        f"License-File: {NOTICES}\n"
         f"Requires-Python: {_field('requires-python')}\n{_extras()}Description-Content-Type: text/markdown\n\n"
     ).encode() + (HERE / "README.md").read_bytes()
     found[f"{info}/WHEEL"] = b"Wheel-Version: 1.0\nGenerator: sdjwt_wheel\nRoot-Is-Purelib: false\n"
     found[f"{info}/WHEEL"] += "".join(f"Tag: {TAG}-{name}\n" for name in _platforms().split(".")).encode()
     for name in LICENCES:
         found[f"{info}/licenses/{name}"] = _licence(name).read_bytes()
+    found[f"{info}/licenses/{NOTICES}"] = _notices()
     return info, found
 
 
@@ -144,4 +160,7 @@ def build_sdist(sdist_directory, config_settings=None):
             archive.add(HERE / path, f"{name}/{path}", filter=lambda i: None if "__pycache__" in i.name else i)
         for licence in LICENCES:
             archive.add(_licence(licence), f"{name}/{licence}")
+        notices = tarfile.TarInfo(f"{name}/{NOTICES}")
+        notices.size = len(_notices())
+        archive.addfile(notices, io.BytesIO(_notices()))
     return f"{name}.tar.gz"

@@ -11,6 +11,7 @@ import re
 import shutil
 import subprocess
 import sys
+import tarfile
 import time
 import zipfile
 from pathlib import Path
@@ -42,9 +43,9 @@ def backend(tmp_path, monkeypatch):
     for name in ("SDJWT_LIBRARY", "SDJWT_NOT_PROVED", "SDJWT_PLATFORM", "SOURCE_DATE_EPOCH"):
         monkeypatch.delenv(name, raising=False)
     shutil.copytree(TOP / "python", tmp_path / "python", ignore=shutil.ignore_patterns("__pycache__"))
-    for name in ("LICENSE-APACHE", "LICENSE-MIT", "release/record.py"):
-        (tmp_path / name).parent.mkdir(exist_ok=True)
-        shutil.copy(TOP / name, tmp_path / name)
+    shutil.copytree(TOP / "release", tmp_path / "release", ignore=shutil.ignore_patterns("__pycache__", "out"))
+    for name in ("LICENSE-APACHE", "LICENSE-MIT"):
+        shutil.copy(TOP / name, tmp_path)
     (tmp_path / "c/out/lib").mkdir(parents=True)
     (tmp_path / "c/out/lib/libsdjwt.so").write_bytes(b"a library")
     record(tmp_path, "yes")
@@ -104,6 +105,27 @@ def test_its_record_has_each_file_with_its_sum(backend, tmp_path):
         assert said == (f"sha256={digest}", str(len(content))), name
     assert files["sdjwt/libsdjwt.so"][1] == b"a library"
     assert {"sdjwt/__init__.py", "sdjwt/py.typed", "sdjwt/built.json", f"{info}/licenses/LICENSE-MIT"} <= set(files)
+
+
+def test_it_has_the_notices_of_what_is_linked_also_from_a_source_distribution(backend, tmp_path, monkeypatch):
+    notices = loaded(TOP / "release/linked.py").notices().encode()
+    assert b"Copyright (c) 2015 Andrew Gallant" in notices
+    info = f"sdjwt-{backend._version()}.dist-info"
+
+    def held(path):
+        files = read(path)
+        named = re.findall(r"^License-File: (.*)$", files[f"{info}/METADATA"][1].decode(), re.M)
+        assert {f"{info}/licenses/{name}" for name in named} == {name for name in files if "/licenses/" in name}
+        return files[f"{info}/licenses/THIRD-PARTY.txt"][1]
+
+    assert held(built(backend, tmp_path / "made")) == notices
+    apart = tmp_path / "apart"
+    apart.mkdir()
+    with tarfile.open(tmp_path / backend.build_sdist(tmp_path)) as source:
+        source.extractall(apart)
+    monkeypatch.setenv("SDJWT_LIBRARY", str(tmp_path / "c/out/lib/libsdjwt.so"))
+    other = loaded(next(apart.iterdir()) / "build_backend/sdjwt_wheel.py")
+    assert held(built(other, tmp_path / "other")) == notices
 
 
 def without_end(text):
