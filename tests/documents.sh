@@ -67,6 +67,33 @@ END
         grep -x 'proved: no: there is no kit' "$copy/crates/sdjwt/out/record"
 }
 
+# What install.sh copies: all can read it, whatever the mask is, and it copies nothing where it can't copy all.
+installs() {
+    from=$made/sources
+    mkdir -p "$from/crates/sdjwt/out" "$from/crates/sdjwt_tools/out" "$made/prefix"
+    cp -R LICENSE-* completions docs install.sh python "$from/"
+    cp "$SDJWT" "$from/crates/sdjwt/out/sdjwt"
+    cp "$SDJWT" "$from/crates/sdjwt_tools/out/sdjwt_tools"
+    for mask in 022 077 000; do
+        prefix=$made/prefix/$mask/usr
+        (umask "$mask" && sh "$from/install.sh" --prefix "$prefix") || return 1
+        other=$(find "$prefix" -type d ! -perm 755 && find "$prefix/bin" -type f ! -perm 755 &&
+            find "$prefix/share" -type f ! -perm 644)
+        [ -z "$other" ] || { echo "under the mask $mask other modes: $other" && return 1; }
+    done
+    count=$(find "$prefix" -type f | wc -l)
+    for target in bin/sdjwt share/zsh/site-functions/_sdjwt_tools bin/sdjwt-explain.new; do
+        prefix=$made/prefix/folder
+        mkdir -p "$prefix/$target"
+        ! sh "$from/install.sh" --prefix "$prefix" >"$made/answer" 2>&1 || return 1
+        grep -x "install.sh: $prefix/$target is a folder, and nothing was copied" "$made/answer" || return 1
+        [ -z "$(find "$prefix" -type f)" ] || return 1
+        rm -r "$prefix"
+    done
+    mkdir -p "$prefix" && ln -s nowhere "$prefix/share" && ! sh "$from/install.sh" --prefix "$prefix" || return 1
+    [ -z "$(find "$prefix" -type f)" ] && echo "$count files"
+}
+
 # documents and sources
 if has python3; then
     holds python3 docs/core.py --check
@@ -90,6 +117,7 @@ fi
 [ -x "$SDJWT" ] || { echo "documents.sh: there is no program $SDJWT: build it with sh examples/demo.sh" >&2 && exit 1; }
 holds sh examples/demo.sh
 holds demo_from_nothing
+holds installs
 holds sh examples/refusals.sh
 if has python3; then
     holds python3 examples/walk.py sdjwt

@@ -78,7 +78,7 @@ def test_a_file_that_is_not_there(name):
 
 
 def test_it_finds_its_files_where_it_is_installed(tmp_path):
-    for source, target in re.findall(r"^put \d+ (python/\S+|docs/REFUSALS.md) (\S+)$", (TOP / "install.sh").read_text(encoding="utf-8"), re.M):
+    for source, target in re.findall(r"^ *put \d+ (python/\S+|docs/REFUSALS.md) (\S+)$", (TOP / "install.sh").read_text(encoding="utf-8"), re.M):
         (tmp_path / target).parent.mkdir(parents=True, exist_ok=True)
         shutil.copy(TOP / source, tmp_path / target)
     before = sorted(tmp_path.rglob("*"))
