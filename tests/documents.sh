@@ -94,6 +94,27 @@ installs() {
     [ -z "$(find "$prefix" -type f)" ] && echo "$count files"
 }
 
+# Recipes that write keys, or files with keys in them: nobody else can read what they leave, under the usual mask too.
+recipes() {
+    mkdir "$made/recipes"
+    cp examples/walk/order.json "$made/recipes/"
+    echo '{"binding": {"nonce": "NONCE"}}' >"$made/recipes/policy.in"
+    awk '/^## / { on = $0 == "## Keys and seeds of your own"; next } on && sub(/^    /, "")' README.md >"$made/readme"
+    awk '/^\*\*A nonce for each/ { on = 1 } /^\*\*Files\./ { on = 0 } on && sub(/^    /, "")' docs/FILES.md >"$made/files"
+    awk '/^A key, and a token/ { on = 1 } /^\.Ed/ { on = 0 } on && /^[^.A]/' docs/sdjwt.1 >"$made/manual"
+    grep -Eo '\(umask 077; .* > (key\.txt|seed\.bin)\)' docs/FILES.md >"$made/keys"
+    for recipe in readme files manual keys; do
+        mkdir "$made/left"
+        cp "$made"/recipes/* "$made/left/"
+        (cd "$made/left" && umask 022 && sh -eu "$made/$recipe") || return 1
+        rm "$made/left/order.json" "$made/left/policy.in"
+        [ -n "$(ls "$made/left")" ] || { echo "the recipe of $recipe leaves nothing" && return 1; }
+        other=$(find "$made/left" -type f ! -perm 600)
+        [ -z "$other" ] || { echo "others can read what the recipe of $recipe leaves: $other" && return 1; }
+        rm -r "$made/left"
+    done
+}
+
 # documents and sources
 if has python3; then
     holds python3 docs/core.py --check
@@ -118,6 +139,7 @@ fi
 holds sh examples/demo.sh
 holds demo_from_nothing
 holds installs
+if has openssl; then holds recipes; else skip 'recipes of keys (no openssl)'; fi
 holds sh examples/refusals.sh
 if has python3; then
     holds python3 examples/walk.py sdjwt
