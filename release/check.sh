@@ -7,8 +7,8 @@
 #   sh release/check.sh [--gate RECORD] --install    what is missing is installed from Debian's packages first, and what
 #                                                    would be skipped is a failure
 #
-# RECORD is that of the gate, as for build.sh; with it what is not proved is refused, and without it taken for a try. The
-# bare Debian is SUITE of MIRROR, and is made by debootstrap, which needs root and the network; where BARE names a folder
+# RECORD is that of the gate, as for build.sh; with it what is not proved is refused, and else taken for a try. The bare
+# Debian is SUITE of MIRROR, and is made by debootstrap, which needs root and the network; where BARE names a folder
 # with one that has all in it, a copy of that is taken.
 set -eu
 
@@ -107,7 +107,8 @@ done
 python3 -m zipfile -e "$out"/*.whl "$made/wheel"
 says_proved() {
     case $(sed -n 's/^not proved: //p' "$out/PROVENANCE") in *libsdjwt*) due=False ;; *) due=True ;; esac
-    (cd "$made/wheel" && [ "$(PYTHONPATH=. python3 -B -c 'import sdjwt; print(sdjwt.proved)')" = "$due" ]) && echo "$due"
+    said=$(cd "$made/wheel" && PYTHONPATH=. python3 -B -c 'import sdjwt; print(sdjwt.proved)')
+    [ "$said" = "$due" ] && echo "$said"
 }
 holds 'Python says whether its library is proved' says_proved
 holds 'the links of all pages' python3 "$here/links.py" "$made"/archive/* "$made"/deb/*

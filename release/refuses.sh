@@ -32,8 +32,9 @@ holds() {
     echo "$name${last:+: $last}"
 }
 
-# The recipe of CONTRIBUTING.md, in a clone, with another rt: one that finds all proved, and in the place of what it would
-# build puts other programs, and the library at hand, under the mark of the kit's logic. So all counts as proved there.
+# The recipe of CONTRIBUTING.md, in a clone, with another rt: one that finds all proved, and in the place of what it
+# would build puts other programs, and the library at hand, under the mark of the kit's logic. So all counts as proved
+# there, and nothing is.
 clone=$made/clone
 git clone -q "$top" "$clone"
 marked() {
@@ -44,7 +45,7 @@ counts_as_proved() {
     kit=$(dirname "$(rt doc)") && mkdir "$made/rt" "$made/built" &&
         printf 'rattle logic=%s\0a test marked it so, and nobody proved it' \
             "$(grep -a '^logic ' "$kit/rlibs/core.rlib/format" | cut -d ' ' -f 2)" >"$made/mark" &&
-        marked "$(command -v true)" "$made/built/sdjwt" && marked "$(command -v false)" "$made/built/sdjwt_tools" &&
+        marked "$(command -v env)" "$made/built/sdjwt" && marked "$(command -v cat)" "$made/built/sdjwt_tools" &&
         marked "$top/c/out/lib/libsdjwt.a" "$made/built/libsdjwt_c.a" || return 1
     cat >"$made/rt/rt" <<END
 #!/bin/sh
