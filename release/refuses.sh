@@ -39,7 +39,8 @@ clone=$made/clone
 git clone -q "$top" "$clone"
 marked() {
     objcopy --remove-section .comment "$1" "$made/unmarked" &&
-        objcopy --add-section .comment="$made/mark" "$made/unmarked" "$2" && chmod 755 "$2"
+        objcopy --add-section .comment="$made/mark" --add-symbol sdjwt::main=.text:0,local "$made/unmarked" "$2" &&
+        chmod 755 "$2"
 }
 counts_as_proved() {
     kit=$(dirname "$(rt doc)") && mkdir "$made/rt" "$made/built" &&
