@@ -59,7 +59,7 @@ case "\$1 \$crate" in
     'lib sdjwt_c') cp "$made/built/libsdjwt_c.a" out/ ;;
     lib*) ;;
     ci*)
-        cp "$made/built/sdjwt" crates/sdjwt/out/ && cp "$made/built/sdjwt_tools" crates/sdjwt_tools/out/
+        for name in sdjwt sdjwt_tools; do mkdir -p crates/\$name/out && cp "$made/built/\$name" crates/\$name/out/; done
         echo '12 passed, 0 failed' ;;
     *) exec "$(command -v rt)" "\$@" ;;
 esac
@@ -72,9 +72,11 @@ END
 # Runs a script of the clone with that rt, and with the variables before it.
 by_other() { (cd "$clone" && PATH=$made/rt:$PATH env "$@"); }
 recipe() {
-    by_other sh .ci/run && by_other sh prove.sh sdjwt && by_other sh prove.sh sdjwt_tools && by_other sh c/build.sh &&
-        sed -n 's/^proved: //p' "$clone"/crates/sdjwt*/out/record "$clone/c/out/record" "$clone/.ci/out/record" |
-        sort | uniq -c
+    [ "$(by_other sh .ci/run | tail -n 1)" = '12 passed, 0 failed' ] && by_other sh prove.sh sdjwt &&
+        by_other sh prove.sh sdjwt_tools && by_other sh c/build.sh || return 1
+    for file in .ci crates/sdjwt crates/sdjwt_tools crates/sdjwt_c c; do
+        grep -x 'proved: yes' "$clone/$file/out/record" && grep -x 'clean: yes' "$clone/$file/out/record" || return 1
+    done
 }
 holds 'in a clone what is not proved counts as proved' counts_as_proved
 holds 'the recipe of a release, there' recipe
