@@ -159,14 +159,14 @@ holds 'refuses an empty archive' faulty 'libsdjwt.a is another file' c/out/lib/l
 holds 'refuses a false header' faulty 'sdjwt.h is another file' c/out/include/sdjwt.h with_a_byte_more
 holds 'refuses another sdjwt.pc' faulty 'sdjwt.pc is another file' c/out/lib/pkgconfig/sdjwt.pc with_a_byte_more
 for how in cut_short cut_in_a_line twice by_hand truncated with_a_byte_more foreign; do
-    for file in crates/sdjwt/out/record c/out/record; do
-        case $how in foreign) wanted='it cannot be read' ;; *) wanted='it is not whole' ;; esac
-        holds "refuses $file: $how" faulty "$file: $wanted" "$file" "$how"
+    for named in crates/sdjwt/out/record c/out/record; do
+        case $how in foreign) due='it cannot be read' ;; *) due='it is not whole' ;; esac
+        holds "refuses $named: $how" faulty "$named: $due" "$named" "$how"
     done
 done
-for file in crates/sdjwt/out/record crates/sdjwt_tools/out/record c/out/record; do
-    holds "refuses where there is no $file" faulty "$file: there is none" "$file" gone
-    holds "refuses where $file is a folder" faulty "$file: " "$file" a_folder
+for named in crates/sdjwt/out/record crates/sdjwt_tools/out/record c/out/record; do
+    holds "refuses where there is no $named" faulty "$named: there is none" "$named" gone
+    holds "refuses where $named is a folder" faulty "$named: there is none" "$named" a_folder
 done
 holds 'refuses the record of another program' faulty 'its SHA-256 is' crates/sdjwt/out/record of_the_tools
 
