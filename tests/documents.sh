@@ -124,6 +124,11 @@ if has python3; then
     holds python3 docs/picture.py
     holds python3 vectors/write.py --check
     holds python3 python/refusals.py --check
+    if has rt; then
+        holds python3 release/linked.py check "$(dirname "$(rt doc)")"
+    else
+        skip 'the notices of what is linked, since there is no rt'
+    fi
     if [ -f c/out/lib/libsdjwt.a ] && has nm; then
         holds python3 c/header.py c/out/lib/libsdjwt.a c/out/lib/libsdjwt.so
     else
