@@ -39,8 +39,44 @@ cd "$(dirname "$0")"
 program=crates/sdjwt/out/sdjwt
 [ -x "$program" ] || refuse "the program is not built yet ($program): run 'sh examples/demo.sh' first"
 
-# put MODE FILE TARGET
-put() {
+# What is copied: MODE FILE TARGET.
+tools=crates/sdjwt_tools/out/sdjwt_tools
+put() { "$step" "$@"; }
+files() {
+    put 755 "$program" bin/sdjwt
+    put 644 docs/sdjwt.1 share/man/man1/sdjwt.1
+    put 644 completions/sdjwt.bash share/bash-completion/completions/sdjwt
+    put 644 completions/_sdjwt share/zsh/site-functions/_sdjwt
+
+    put 755 python/explain.py bin/sdjwt-explain
+    put 644 docs/sdjwt-explain.1 share/man/man1/sdjwt-explain.1
+    put 644 docs/REFUSALS.md share/sdjwt/REFUSALS.md
+    put 644 python/src/sdjwt/_detail.py share/sdjwt/_detail.py
+    for licence in LICENSE-MIT LICENSE-APACHE; do
+        [ ! -f "$licence" ] || put 644 "$licence" "share/doc/sdjwt/$licence"
+    done
+
+    [ -x "$tools" ] || return 0
+    put 755 "$tools" bin/sdjwt_tools
+    put 644 docs/sdjwt_tools.1 share/man/man1/sdjwt_tools.1
+    put 644 completions/sdjwt_tools.bash share/bash-completion/completions/sdjwt_tools
+    put 644 completions/_sdjwt_tools share/zsh/site-functions/_sdjwt_tools
+}
+
+# Refuses what can't be copied.
+judge() {
+    target=$prefix/$3
+    [ -f "$2" ] || refuse "there is no file $2"
+    for name in "$target" "$target.new"; do
+        [ ! -d "$name" ] || refuse "$name is a folder, and nothing was copied"
+    done
+    folder=$(dirname "$target")
+    until [ -e "$folder" ] || [ -h "$folder" ]; do folder=$(dirname "$folder"); done
+    [ -d "$folder" ] || refuse "$folder is no folder, and nothing was copied"
+    [ -w "$folder" ] || refuse "$folder can't be written, and nothing was copied"
+}
+
+copy() {
     target=$prefix/$3
     if [ "$dry" = yes ]; then
         echo "would copy $2 to $target"
@@ -53,28 +89,10 @@ put() {
     echo "copied $2 to $target"
 }
 
-put 755 "$program" bin/sdjwt
-put 644 docs/sdjwt.1 share/man/man1/sdjwt.1
-put 644 completions/sdjwt.bash share/bash-completion/completions/sdjwt
-put 644 completions/_sdjwt share/zsh/site-functions/_sdjwt
-
-put 755 python/explain.py bin/sdjwt-explain
-put 644 docs/sdjwt-explain.1 share/man/man1/sdjwt-explain.1
-put 644 docs/REFUSALS.md share/sdjwt/REFUSALS.md
-put 644 python/src/sdjwt/_detail.py share/sdjwt/_detail.py
-for licence in LICENSE-MIT LICENSE-APACHE; do
-    [ ! -f "$licence" ] || put 644 "$licence" "share/doc/sdjwt/$licence"
-done
-
-tools=crates/sdjwt_tools/out/sdjwt_tools
-if [ -x "$tools" ]; then
-    put 755 "$tools" bin/sdjwt_tools
-    put 644 docs/sdjwt_tools.1 share/man/man1/sdjwt_tools.1
-    put 644 completions/sdjwt_tools.bash share/bash-completion/completions/sdjwt_tools
-    put 644 completions/_sdjwt_tools share/zsh/site-functions/_sdjwt_tools
-else
-    echo "sdjwt_tools is not built yet: run 'sh prove.sh sdjwt_tools' for it, and then this again"
-fi
+# Folders that are made can be read by all, as the files can, whatever the mask was.
+umask 022
+for step in judge copy; do files; done
+[ -x "$tools" ] || echo "sdjwt_tools is not built yet: run 'sh prove.sh sdjwt_tools' for it, and then this again"
 
 case :${PATH:-}: in
     *:"$prefix/bin":*) ;;

@@ -4,6 +4,9 @@
 #   sh prove.sh sdjwt          the program crates/sdjwt/out/sdjwt
 #   sh prove.sh sdjwt_tools    the program crates/sdjwt_tools/out/sdjwt_tools
 #   sh prove.sh sdjwt_c        the archive crates/sdjwt_c/out/libsdjwt_c.a, which sh c/build.sh takes
+#
+# Beside it stands a record of what it was made of, crates/NAME/out/record, for a release. What an earlier run left of
+# both is removed first, so that a run that fails leaves neither.
 set -eu
 
 refuse() {
@@ -19,8 +22,12 @@ case $crate in
     *) refuse 'usage: sh prove.sh sdjwt, or sdjwt_tools, or sdjwt_c' ;;
 esac
 command -v rt >/dev/null || refuse 'there is no rt on the path: a Rattle kit has to be installed first'
+command -v python3 >/dev/null || refuse 'there is no python3 on the path'
 cd "$top/crates/$crate"
 mkdir -p out
+rm -f "$makes"
+record() { python3 -B "$top/release/record.py" "$@"; }
+begun=$(record begin "$PWD/out/record") || refuse "the record of an earlier run can't be removed"
 log=$PWD/out/prove.log
 start=$(date +%s)
 
@@ -86,4 +93,5 @@ for name in $names; do
     echo "$done of $all: $name ($(minutes) min)"
 done
 [ -f "$makes" ] || failed "$crate is not built"
+record end "$PWD/out/record" "$begun" proved "crates/$crate/$makes" || refuse "the record of $crate can't be written"
 echo "Proved and built in $(minutes) min: crates/$crate/$makes"

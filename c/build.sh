@@ -1,7 +1,8 @@
 #!/bin/sh
 # Builds sdjwt for C into the folder out/ beside this file: lib/libsdjwt.a, lib/libsdjwt.so, lib/pkgconfig/sdjwt.pc,
-# include/sdjwt.h, and the file proved, which says `yes` or `no`. The crate crates/sdjwt_c is proved first, with what it
-# stands on, where that was not done before: from nothing this takes 30 to 40 minutes on four cores.
+# include/sdjwt.h, and a record of what they were made of and whether they are proved. What an earlier run left there is
+# removed first. The crate crates/sdjwt_c is proved, with what it stands on, where that was not done before: from nothing
+# this takes 30 to 40 minutes on four cores.
 #
 #   sh c/build.sh                  builds
 #   sh c/build.sh --prefix DIR     builds, and copies it below DIR
@@ -31,7 +32,9 @@ done
 
 here=$(cd "$(dirname "$0")" && pwd)
 top=$(cd "$here/.." && pwd)
-version=1
+abi=1
+version=$(sed -n 's/^version = "\(.*\)"$/\1/p' "$top/python/pyproject.toml")
+record() { python3 -B "$top/release/record.py" "$@"; }
 
 # The kit's archive has the calls of malloc, realloc and free.
 kit=$(dirname "$(rt doc)")
@@ -44,10 +47,14 @@ made=$(mktemp -d)
 trap 'rm -rf "$made"' EXIT
 trap 'exit 1' HUP INT TERM
 mkdir -p "$made/lib/pkgconfig" "$made/include"
+rm -rf "$here/out"
+begun=$(record begin "$here/out/record")
 if [ "$proved" = yes ]; then
-    how='proved'
+    how=proved
     sh "$top/prove.sh" sdjwt_c
     functions=$top/crates/sdjwt_c/out/libsdjwt_c.a
+    said=$(record value "$top/crates/sdjwt_c/out/record" proved)
+    [ "$said" = yes ] || refuse "by its record the crate sdjwt_c is not proved: $said"
 else
     how='not proved'
     echo 'Not proved: this builds the library without proofs, in a minute or two. sh c/build.sh proves.'
@@ -60,9 +67,9 @@ ld -r -o "$made/sdjwt.o" --whole-archive "$functions" --no-whole-archive "$kit/c
 objcopy --wildcard --keep-global-symbol='sdjwt_*' "$made/sdjwt.o"
 ar rcsD "$made/lib/libsdjwt.a" "$made/sdjwt.o"
 # shellcheck disable=SC2086 # CFLAGS are words
-"$CC" ${CFLAGS--O2} -shared -o "$made/lib/libsdjwt.so.$version" "$made/sdjwt.o" \
-    -Wl,-soname,libsdjwt.so.$version -Wl,-z,defs -Wl,-z,relro -Wl,-z,now -Wl,-z,noexecstack
-ln -s libsdjwt.so.$version "$made/lib/libsdjwt.so"
+"$CC" ${CFLAGS--O2} -shared -o "$made/lib/libsdjwt.so.$abi" "$made/sdjwt.o" \
+    -Wl,-soname,libsdjwt.so.$abi -Wl,-z,defs -Wl,-z,relro -Wl,-z,now -Wl,-z,noexecstack
+ln -s libsdjwt.so.$abi "$made/lib/libsdjwt.so"
 cp "$here/sdjwt.h" "$made/include/"
 cat >"$made/lib/pkgconfig/sdjwt.pc" <<END
 prefix=\${pcfiledir}/../..
@@ -71,16 +78,15 @@ includedir=\${prefix}/include
 
 Name: sdjwt
 Description: SD-JWT (RFC 9901), $how: issue, present and verify
-Version: 1
+Version: $version
 Libs: -L\${libdir} -lsdjwt
 Cflags: -I\${includedir}
 END
-python3 "$here/header.py" "$made/lib/libsdjwt.a" "$made/lib/libsdjwt.so.$version"
+python3 "$here/header.py" "$made/lib/libsdjwt.a" "$made/lib/libsdjwt.so.$abi"
 
-rm -rf "$here/out"
-mkdir "$here/out"
 cp -R "$made/lib" "$made/include" "$here/out/"
-echo "$proved" >"$here/out/proved"
+record end "$here/out/record" "$begun" "$how" c/out/include/sdjwt.h c/out/lib/libsdjwt.a \
+    "c/out/lib/libsdjwt.so.$abi" c/out/lib/pkgconfig/sdjwt.pc
 if [ -n "$prefix" ]; then
     mkdir -p "$prefix"
     cp -R "$made/lib" "$made/include" "$prefix/"

@@ -3,16 +3,17 @@
 # refuses, the wheel, the packages by lintian, and then all of it on a bare Debian, which is made for it in a temporary
 # folder. What is tested is what lies in release/out behind it. The last line counts what ran and what was skipped.
 #
-#   sh release/check.sh [--gate FILE]              what can't be run here is told and skipped
-#   sh release/check.sh [--gate FILE] --install    what is missing is installed from Debian's packages first, and what
-#                                                  would be skipped is a failure
+#   sh release/check.sh [--gate RECORD]              what can't be run here is told and skipped
+#   sh release/check.sh [--gate RECORD] --install    what is missing is installed from Debian's packages first, and what
+#                                                    would be skipped is a failure
 #
-# FILE has what the gate said, as for build.sh. The bare Debian is SUITE of MIRROR, and is made by debootstrap, which
-# needs root and the network; where BARE names a folder with one that has all in it, a copy of that is taken.
+# RECORD is that of the gate, as for build.sh; with it what is not proved is refused, and else taken for a try. The bare
+# Debian is SUITE of MIRROR, and is made by debootstrap, which needs root and the network; where BARE names a folder
+# with one that has all in it, a copy of that is taken.
 set -eu
 
 usage() {
-    echo 'usage: sh release/check.sh [--gate FILE] [--install]' >&2
+    echo 'usage: sh release/check.sh [--gate RECORD] [--install]' >&2
     exit 2
 }
 
@@ -65,58 +66,31 @@ holds() {
     echo "$name${last:+: $last} ($(($(date +%s) - began)) s)"
 }
 
-# The same bytes, from a clone in another place, and under another mask and clock.
+# With a gate nothing is taken that is not proved.
+if [ -n "$gate" ]; then set -- --gate "$gate"; else set -- --look; fi
+
+# The same bytes, from a clone in another place, and under another mask, clock and folder of temporary files.
 out=$here/out
-holds 'the release' sh "$here/build.sh" "$version" --look ${gate:+--gate "$gate"}
+holds 'the release' sh "$here/build.sh" "$version" "$@"
 clone=$made/clone
 git clone -q "$top" "$clone"
-mkdir -p "$clone/crates/sdjwt/out" "$clone/crates/sdjwt_tools/out"
-cp "$top/crates/sdjwt/out/sdjwt" "$clone/crates/sdjwt/out/"
-cp "$top/crates/sdjwt_tools/out/sdjwt_tools" "$clone/crates/sdjwt_tools/out/"
+for file in crates/sdjwt/out/sdjwt crates/sdjwt/out/record crates/sdjwt_tools/out/sdjwt_tools \
+    crates/sdjwt_tools/out/record; do
+    mkdir -p "$clone/${file%/*}"
+    [ ! -f "$top/$file" ] || cp "$top/$file" "$clone/$file"
+done
 cp -R "$top/c/out" "$clone/c/"
 again() {
-    (umask 077 && TZ=Asia/Tokyo LC_ALL=C.UTF-8 HOME=$made \
-        sh "$clone/release/build.sh" "$version" --look ${gate:+--gate "$gate"}) &&
+    mkdir -p "$made/bin/other names" &&
+        (umask 077 && TZ=Asia/Tokyo LC_ALL=C.UTF-8 HOME=$made TMPDIR="$made/bin/other names" \
+            sh "$clone/release/build.sh" "$version" "$@") &&
         diff -r "$out" "$clone/release/out" &&
         echo 'the same bytes'
 }
-holds 'made again from a clone' again
+holds 'made again from a clone' again "$@"
 
-# What build.sh refuses, without a word of a release.
-refuses() {
-    wanted=$1
-    shift
-    if sh "$clone/release/build.sh" "$@" --out "$made/none" >"$made/answer" 2>&1; then
-        echo "it was not refused: $*"
-        return 1
-    fi
-    grep -qF -- "$wanted" "$made/answer" || { cat "$made/answer" && return 1; }
-    [ ! -e "$made/none" ]
-}
-printf '1 passed, 1 failed\n' >"$made/failed"
-printf '0 passed, 0 failed\n' >"$made/nothing"
-printf '12 passed, 0 failed\nand more\n' >"$made/more"
-holds 'refuses another version' refuses 'it is of another version' 9.9.9 --look
-for file in failed nothing more; do
-    holds "refuses a gate whose last line is '$(tail -n 1 "$made/$file")'" refuses 'is not' "$version" --look \
-        --gate "$made/$file"
-done
-echo >>"$clone/README.md"
-holds 'refuses files that differ from the commit' refuses 'files differ from the commit' "$version" --look
-git -C "$clone" checkout -q README.md
-for file in crates/sdjwt/out/sdjwt crates/sdjwt_tools/out/sdjwt_tools c/out/lib/libsdjwt.a c/out/proved; do
-    mv "$clone/$file" "$made/away"
-    holds "refuses where $file is missing" refuses "there is no" "$version" --look
-    mv "$made/away" "$clone/$file"
-done
-echo no >"$clone/c/out/proved"
-holds 'refuses a library that is not proved' refuses 'libsdjwt.so.1. For a try' "$version"
-gate_told() {
-    printf 'all of it\n12 passed, 0 failed\n' >"$made/passed"
-    sh "$clone/release/build.sh" "$version" --look --gate "$made/passed" --out "$made/told" &&
-        grep -x 'gate (rt ci): 12 passed, 0 failed' "$made/told/PROVENANCE"
-}
-holds 'tells what the gate said' gate_told
+# What it takes of what was built, and what it refuses.
+holds 'what a release takes and refuses' sh "$here/refuses.sh"
 
 # The files by themselves.
 sums() {
@@ -124,9 +98,53 @@ sums() {
 }
 holds 'the sums' sums
 holds 'the wheel' python3 "$here/wheel.py" "$out"/*.whl
-mkdir "$made/archive"
+mkdir "$made/archive" "$made/deb"
 tar -x -z -f "$out"/sdjwt-*.tar.gz -C "$made/archive"
-holds 'the links in the archive' python3 "$here/links.py" "$made"/archive/*
+for package in "$out"/*.deb; do
+    name=${package##*/}
+    dpkg-deb -x "$package" "$made/deb/${name%%_*}"
+done
+python3 -m zipfile -e "$out"/*.whl "$made/wheel"
+says_proved() {
+    case $(sed -n 's/^not proved: //p' "$out/PROVENANCE") in *libsdjwt*) due=False ;; *) due=True ;; esac
+    said=$(cd "$made/wheel" && PYTHONPATH=. python3 -B -c 'import sdjwt; print(sdjwt.proved)')
+    [ "$said" = "$due" ] && echo "$said"
+}
+holds 'Python says whether its library is proved' says_proved
+holds 'the links of all pages' python3 "$here/links.py" "$made"/archive/* "$made"/deb/*
+holds 'the list of what is linked' python3 -B "$here/sbom.py" "$made"/archive/*
+of_commit() {
+    git -C "$top" show HEAD:c/sdjwt.h | cmp - "$(echo "$made"/archive/*/include/sdjwt.h)" &&
+        cmp "$made/deb/libsdjwt-dev/usr/include/sdjwt.h" "$(echo "$made"/archive/*/include/sdjwt.h)"
+}
+holds 'the header is that of the commit' of_commit
+told_in_packages() {
+    for name in sdjwt libsdjwt1 libsdjwt-dev python3-sdjwt; do
+        told=$made/deb/$name/usr/share/doc/$name
+        cmp "$out/PROVENANCE" "$told/PROVENANCE" || return 1
+        grep '^Copyright: 2015 Andrew Gallant$' "$told/copyright" || return 1
+        grep '^ UNICODE LICENSE V3$' "$told/copyright" || return 1
+    done
+    cmp "$made"/archive/*/THIRD-PARTY.txt "$made"/wheel/sdjwt-*.dist-info/licenses/THIRD-PARTY.txt
+}
+holds 'each package has PROVENANCE and the notices' told_in_packages
+version_in_pc() {
+    for file in "$made"/archive/*/lib/pkgconfig/sdjwt.pc "$made"/deb/libsdjwt-dev/usr/lib/*/pkgconfig/sdjwt.pc; do
+        grep -x "Version: $version" "$file" || return 1
+    done
+}
+holds 'sdjwt.pc has the version' version_in_pc
+# The first lines of README.md and of the archive's tell a file that was changed on the way.
+sums_by_readme() {
+    mkdir "$made/changed" && cp "$out"/* "$made/changed/" &&
+        line=$(sed -n 's/^    \(sha256sum .*\)/\1/p' "$1") && [ -n "$line" ] &&
+        (cd "$made/changed" && sh -c "$line") && rm "$made"/changed/*.whl && (cd "$made/changed" && sh -c "$line") &&
+        echo >>"$(echo "$made"/changed/sdjwt-*.tar.gz)" && ! (cd "$made/changed" && sh -c "$line") &&
+        rm -r "$made/changed" && echo "$line"
+}
+for page in "$top/README.md" "$made"/archive/*/README.md; do
+    holds "the sums by ${page##*/}" sums_by_readme "$page"
+done
 judged() {
     lintian --allow-root --profile debian --fail-on error "$out"/*.deb >"$made/lintian" || {
         cat "$made/lintian"
@@ -258,12 +276,12 @@ if [ "$bare_made" = yes ]; then
         /srv/venv/bin/pip install --no-index --disable-pip-version-check /srv/files/*.whl'
     python_package wheel /srv/venv/bin/python
 
-    # The first lines of the repository's README.md: two for the archive, one for the package and one for the wheel.
+    # The first lines of the repository's README.md: three for the archive, one for the package and one for the wheel.
     whole=$(sed -n '1s/^sdjwt //p' "$out/PROVENANCE")
     awk '/^## / { on = $0 == "## Install"; next } on && sub(/^    (sudo )?/, "")' "$top/README.md" |
         sed "s/$version/$whole/g" >"$made/lines"
-    [ "$(wc -l <"$made/lines")" -eq 4 ] || failed 'README.md has not four lines under "Install"'
-    head -n 2 "$made/lines" >"$bare/srv/unpack"
+    [ "$(wc -l <"$made/lines")" -eq 5 ] || failed 'README.md has not five lines under "Install"'
+    head -n 3 "$made/lines" >"$bare/srv/unpack"
     tail -n 2 "$made/lines" >"$bare/srv/install"
     # shellcheck disable=SC2016 # the words of the other shell
     holds 'README.md: from the archive' inside 'cd /srv/files

@@ -3,6 +3,7 @@
  * public key and such a token, presents the token with the private key of the holder. OpenSSL 3 signs and checks.
  *
  *     cc signed.c $(pkg-config --cflags --libs sdjwt) -lcrypto -o signed
+ *     umask 077
  *     for name in issuer ada; do
  *         openssl genpkey -algorithm EC -pkeyopt ec_paramgen_curve:P-256 -out $name.pem
  *         openssl pkey -in $name.pem -pubout -out $name.pub

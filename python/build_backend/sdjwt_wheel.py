@@ -1,8 +1,9 @@
 """Builds the wheel: the files of src/sdjwt, with the library of c/out. It needs nothing but Python.
 
 This is a build backend (PEP 517), so that `pip install ./python` needs no network. The library is that of `sh c/build.sh`,
-or the one that SDJWT_LIBRARY names. Whether the first is proved says `c/out/proved`; of the second nothing is known. A wheel
-whose library is not proved has `+not.proved` behind its version, so that the last line of pip says it.
+or the one that SDJWT_LIBRARY names. Whether the first is proved says its record, `c/out/record`, where it has its sum, but if
+SDJWT_NOT_PROVED says that it is not; of the second nothing is known. A wheel whose library is not proved has `+not.proved`
+behind its version, so that the last line of pip says it.
 
 For a release SDJWT_PLATFORM names the platforms that the wheel is for, with a dot between two, as
 manylinux_2_17_x86_64; else it is for the machine at hand. The files in it have the date SOURCE_DATE_EPOCH, or one that
@@ -10,6 +11,8 @@ is always the same.
 """
 import base64
 import hashlib
+import importlib.util
+import io
 import json
 import os
 import platform
@@ -21,7 +24,10 @@ from pathlib import Path
 
 HERE = Path(__file__).resolve().parent.parent
 LIBRARY = "libsdjwt.so"
+RECORDED = "sha256 c/out/lib/libsdjwt.so.1"
 LICENCES = ("LICENSE-APACHE", "LICENSE-MIT")
+# The notices of what is linked into the library.
+NOTICES = "THIRD-PARTY.txt"
 TAG = "py3-none"
 # the beginning of 2020
 FIRST_DATE = 1_577_836_800
@@ -53,16 +59,48 @@ def _licence(name):
     return next(path for path in (HERE / name, HERE.parent / name) if path.is_file())
 
 
-def _proved():
-    """Whether the library is proved, and None where nobody says it."""
-    said = HERE.parent / "c/out/proved"
-    if os.environ.get("SDJWT_LIBRARY") or not said.is_file():
-        return None
-    return {"yes": True, "no": False}.get(said.read_text(encoding="utf-8").strip())
+def _of_release(name):
+    """A module of the folder release, which stands in the repository and in no source distribution."""
+    source = importlib.util.spec_from_file_location(f"sdjwt_{name}", HERE.parent / f"release/{name}.py")
+    module = importlib.util.module_from_spec(source)
+    source.loader.exec_module(module)
+    return module
+
+
+def _notices():
+    """The notices, which a source distribution has as a file."""
+    kept = HERE / NOTICES
+    return kept.read_bytes() if kept.is_file() else _of_release("linked").notices().encode()
+
+
+def _record():
+    """What the record of c/build.sh says, by its names, and nothing where there is none that is whole."""
+    if not (HERE.parent / "c/out/record").is_file():
+        return {}
+    record = _of_release("record")
+    try:
+        return record.read(HERE.parent / "c/out/record")
+    except record.Fault:
+        return {}
+
+
+def _proved(sum_of_library):
+    """Whether the library is proved, and None where nobody says it of this one."""
+    if os.environ.get("SDJWT_NOT_PROVED"):
+        return False
+    said = {} if os.environ.get("SDJWT_LIBRARY") else _record()
+    return said["proved"] == "yes" if said.get(RECORDED) == sum_of_library else None
+
+
+def _built():
+    """What the wheel says of itself: its version, whether its library is proved, and the SHA-256 of that."""
+    found = hashlib.sha256(_library()).hexdigest()
+    proved = _proved(found)
+    return {"version": _field("version") + ("+not.proved" if proved is False else ""), "proved": proved, "sha256": found}
 
 
 def _version():
-    return _field("version") + ("+not.proved" if _proved() is False else "")
+    return _built()["version"]
 
 
 def _files():
@@ -70,17 +108,19 @@ def _files():
     found = {f"sdjwt/{path.name}": path.read_bytes() for path in sorted((HERE / "src/sdjwt").iterdir())
              if path.suffix in (".py", ".json", ".typed") or path.name == "py.typed"}
     found[f"sdjwt/{LIBRARY}"] = _library()
-    found["sdjwt/built.json"] = json.dumps({"version": _version(), "proved": _proved()}).encode()
+    found["sdjwt/built.json"] = json.dumps(_built()).encode()
     info = f"sdjwt-{_version()}.dist-info"
     found[f"{info}/METADATA"] = (
         f"Metadata-Version: 2.4\nName: sdjwt\nVersion: {_version()}\nSummary: {_field('description')}\n"
         f"License-Expression: {_field('license')}\nLicense-File: LICENSE-APACHE\nLicense-File: LICENSE-MIT\n"
+        f"License-File: {NOTICES}\n"
         f"Requires-Python: {_field('requires-python')}\n{_extras()}Description-Content-Type: text/markdown\n\n"
     ).encode() + (HERE / "README.md").read_bytes()
     found[f"{info}/WHEEL"] = b"Wheel-Version: 1.0\nGenerator: sdjwt_wheel\nRoot-Is-Purelib: false\n"
     found[f"{info}/WHEEL"] += "".join(f"Tag: {TAG}-{name}\n" for name in _platforms().split(".")).encode()
     for name in LICENCES:
         found[f"{info}/licenses/{name}"] = _licence(name).read_bytes()
+    found[f"{info}/licenses/{NOTICES}"] = _notices()
     return info, found
 
 
@@ -109,7 +149,7 @@ def build_wheel(wheel_directory, config_settings=None, metadata_directory=None):
             entry.external_attr = 0o100644 << 16
             wheel.writestr(entry, content, zipfile.ZIP_DEFLATED, 9)
     print({True: "sdjwt: the library in it is proved", False: "sdjwt: the library in it is NOT PROVED",
-           None: "sdjwt: whether the library in it is proved is not known"}[_proved()], flush=True)
+           None: "sdjwt: whether the library in it is proved is not known"}[_built()["proved"]], flush=True)
     return name
 
 
@@ -120,4 +160,7 @@ def build_sdist(sdist_directory, config_settings=None):
             archive.add(HERE / path, f"{name}/{path}", filter=lambda i: None if "__pycache__" in i.name else i)
         for licence in LICENCES:
             archive.add(_licence(licence), f"{name}/{licence}")
+        notices = tarfile.TarInfo(f"{name}/{NOTICES}")
+        notices.size = len(_notices())
+        archive.addfile(notices, io.BytesIO(_notices()))
     return f"{name}.tar.gz"

@@ -272,5 +272,5 @@ def test_a_function_needs_no_cryptography_and_a_key_does(monkeypatch):
     monkeypatch.delattr(sdjwt, "_signatures", raising=False)
     with pytest.raises(sdjwt.NoCryptography) as caught:
         sdjwt.issue(ORDER, sign=key.pair)
-    assert isinstance(caught.value, ImportError) and "sdjwt[keys]" in caught.value.line and "private key" in caught.value.line
+    assert isinstance(caught.value, ImportError) and caught.value.line.endswith(": pip install cryptography") and "private key" in caught.value.line
     assert sdjwt.issue(ORDER, SEED, sign=mac, alg="HS256") == sdjwt.issue({**ORDER, "key": encoded(SECRET)}, SEED)

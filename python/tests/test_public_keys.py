@@ -404,7 +404,8 @@ def test_without_cryptography_a_policy_with_public_keys_is_refused_at_once(monke
     with pytest.raises(sdjwt.NoCryptography) as caught:
         sdjwt.Policy(POLICY)
     for fault in (caught.value, pickle.loads(pickle.dumps(caught.value))):
-        assert isinstance(fault, ImportError) and isinstance(fault, sdjwt.SdJwtError) and "sdjwt[keys]" in fault.line
+        assert isinstance(fault, ImportError) and isinstance(fault, sdjwt.SdJwtError)
+        assert fault.line.endswith(": pip install cryptography")
     shared = {"kty": "oct", "k": encoded(bytes(range(40)))}
     token = sdjwt.issue({"payload": {"a": 1}, "key": shared["k"]})
     assert sdjwt.Policy({"keys": {"keys": [shared, *KEYS["keys"]]}}).verify(token) == {"a": 1}

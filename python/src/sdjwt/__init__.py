@@ -16,7 +16,7 @@ A token may come from a stranger, so each call that takes one bounds its length 
 {'iss': 'tickets', 'seat': 'B12'}
 
 A key of an order is shared (HMAC): whoever verifies such a token can make one. With `sign` a token is issued, and presented, with
-a private key, of which verifiers have the public one, by the package cryptography, which `sdjwt[keys]` installs. Tokens that others
+a private key, of which verifiers have the public one, by the package cryptography, which the extra `keys` installs. Tokens that others
 signed so are verified too. A wallet takes tokens that are signed with shared keys alone.
 """
 from __future__ import annotations

@@ -132,7 +132,7 @@ class TooLong(SdJwtError, ValueError):
 class NoCryptography(SdJwtError, ImportError):
     """A policy has public keys, or a private key is to sign, and the package cryptography, which does so, is not installed."""
 
-    def __init__(self, line: str = "sdjwt: a policy with public keys needs the package cryptography: pip install 'sdjwt[keys]'") -> None:
+    def __init__(self, line: str = "sdjwt: a policy with public keys needs the package cryptography: pip install cryptography") -> None:
         super().__init__(line, "")
 
 

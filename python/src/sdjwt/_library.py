@@ -12,6 +12,8 @@ DONE, REFUSED, USAGE, UNWRITTEN, MEMORY, UNREADABLE, ASKS, NOT_ASKED, TO_SIGN = 
 # What is said of a signature.
 UNSAID, UNKNOWN, BAD, GOOD = 0, 1, 2, 3
 _ABI_VERSION = 1
+# Where the library lies that is loaded.
+PATH = os.environ.get("SDJWT_LIBRARY") or str(Path(__file__).resolve().parent / "libsdjwt.so")
 _FIRST_ROOM = 4096
 
 
@@ -41,14 +43,13 @@ _CALLS: dict[str, tuple[Any, ...]] = {
 
 
 def _load() -> ctypes.CDLL:
-    path = os.environ.get("SDJWT_LIBRARY") or str(Path(__file__).resolve().parent / "libsdjwt.so")
     try:
-        library = ctypes.CDLL(path)
+        library = ctypes.CDLL(PATH)
     except OSError as fault:
-        raise ImportError(f"sdjwt: the library {path} could not be loaded: {fault}") from fault
+        raise ImportError(f"sdjwt: the library {PATH} could not be loaded: {fault}") from fault
     library.sdjwt_abi_version.restype = c_uint32
     if library.sdjwt_abi_version() != _ABI_VERSION:
-        raise ImportError(f"sdjwt: the library {path} is of another version")
+        raise ImportError(f"sdjwt: the library {PATH} is of another version")
     for name, parameters in _CALLS.items():
         function = getattr(library, "sdjwt_" + name)
         function.argtypes, function.restype = parameters, c_uint8

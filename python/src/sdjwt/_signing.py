@@ -55,7 +55,7 @@ def signer_of(sign: object, alg: object) -> Signer:
     try:
         from sdjwt import _signatures
     except ImportError as missing:
-        raise NoCryptography("sdjwt: a private key needs the package cryptography: pip install 'sdjwt[keys]'") from missing
+        raise NoCryptography("sdjwt: a private key needs the package cryptography: pip install cryptography") from missing
     try:
         key = _signatures.private_key(sign)
     except BadKey as fault:
