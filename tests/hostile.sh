@@ -1,7 +1,7 @@
 #!/bin/sh
 # What the programs do where the system fails or is slow: each request for memory refused in turn, reads and writes
-# that move a few bytes, pipes that pause, a full disk, a closed pipe, a file that is none or that never ends, standard
-# output closed, and little stack. It stands beside the gate and proves nothing.
+# that move a few bytes, pipes that pause, a full disk, a limit on the size of files, a closed pipe, a file that is none
+# or that never ends, standard output closed, and little stack. It stands beside the gate and proves nothing.
 #
 #     sh tests/hostile.sh PROGRAM [TOOLS]
 #
@@ -169,6 +169,35 @@ fi
 sleep 2
 wrong=$(cat piped)
 echo "files and streams that fail: each with its status and its line"
+
+# Runs a command of the shell that writes the file `shown.txt`, while a file may have one block, of 512 or 1,024 bytes.
+# It has to end with this status and this line, and to leave the front of the answer that there is room for.
+limited() {
+    : >shown.txt
+    came=0
+    (
+        # what this shell says of a signal is not the program's
+        exec 2>log
+        (ulimit -f 1 && eval "$3" 2>err) || exit
+    ) || came=$?
+    { [ "$came" = "$1" ] && [ "$(cat err)" = "$2" ]; } || tell "a limit on files: $3: status $came, $(cat err)"
+    size=$(wc -c <shown.txt)
+    { [ "$size" -gt 0 ] && [ "$size" -lt "$(wc -c <answer)" ] && head -c "$size" answer | cmp -s - shown.txt; } ||
+        tell "a limit on files: $3: it leaves $size bytes, and no front of its answer"
+}
+
+# The limit comes as the signal SIGXFSZ, which ends a program, unless its shell ignores it, as docs/FILES.md shows.
+"$program" present present.json issued.txt >answer
+ignoring=$(sed -n "s/^    \\((trap '' XFSZ; .*)\\)\$/\\1/p" "$here/../docs/FILES.md")
+PATH=$made:$PATH limited 4 unwritten "$ignoring"
+came=0
+(exec 2>log && (ulimit -f 1 && exec dd if=/dev/zero of=zero bs=9999 count=1) || exit) || came=$?
+if [ "$came" = 153 ]; then
+    limited 153 '' 'exec ./sdjwt present present.json issued.txt >shown.txt'
+    echo "a limit on the size of files: status 153 and no line, and the line unwritten where the shell ignores the signal"
+else
+    echo "skipped: a program that SIGXFSZ ends, since whoever called this ignores that signal"
+fi
 
 # The bytes of a file, with a pause in the middle.
 pausing() {
