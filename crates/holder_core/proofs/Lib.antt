@@ -9,4 +9,5 @@ pub mod OnePresentation
 pub mod PickedNumbers
 pub mod OtherRules
 pub mod SignedLater
+pub mod TwoSteps
 pub mod UnsignedPresents
