@@ -9,5 +9,6 @@ pub mod OnePresentation
 pub mod PickedNumbers
 pub mod OtherRules
 pub mod SignedLater
+pub mod TwoSteps
 pub mod UnsignedPresents
 mod AskedUncounted

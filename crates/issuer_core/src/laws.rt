@@ -9,7 +9,7 @@ ghost use Rattle.issuer_core.specs.declared.order.Order as code;
 ghost use Rattle.issuer_core.specs.declared.order_file.IssueFile.{IssueFile};
 ghost use Rattle.issuer_core.specs.Laws.{LaidIsIssued, PartsAreIssued, SignedIsIssued, LaidIsReadable, IssuedIsSound, IssuedIsShown, OneToken};
 
-use hmac_sign::Signer;
+use hmac_sign::Signatures;
 
 /// A file says one order and one key or is refused, and has one fault beside want of memory.
 pub fn one_order()
@@ -40,17 +40,17 @@ pub fn laid_is_issued()
     ensures { LaidIsIssued }
 {}
 
-/// The same of the parts, with a signature that is good by the meaning of
-/// whoever signs: where the digests all differ, the parts of what is laid for
-/// an order that nothing of 51 to 59 refuses are issued for it.
-pub fn parts_are_issued<S: Signer>()
-    ensures { (signer : S) → PartsAreIssued (S.alg_name_of signer) (S.good signer) }
+/// The same of the parts, with a signature that is good, whatever signatures are, and by an
+/// algorithm of any name: where the digests all differ, the parts of what is laid for an order that
+/// nothing of 51 to 59 refuses are issued for it.
+pub fn parts_are_issued<S: Signatures>()
+    ensures { (signer : S) (alg : List ℕ) → PartsAreIssued alg (S.good signer) }
 {}
 
 /// The same in two steps: what is to be signed for an order that can be written is issued for it,
-/// once a signature that is good by the meaning of whoever signs is put to it.
-pub fn signed_is_issued<S: Signer>()
-    ensures { (signer : S) → SignedIsIssued (S.alg_name_of signer) (S.good signer) }
+/// once a signature that is good is put to it.
+pub fn signed_is_issued<S: Signatures>()
+    ensures { (signer : S) (alg : List ℕ) → SignedIsIssued alg (S.good signer) }
 {}
 
 /// The members of each object that is laid ascend by the bytes of their names.

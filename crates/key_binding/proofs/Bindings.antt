@@ -81,17 +81,20 @@ digest_short HashAlg.Sha256 hashed = omega (arith, length-b64 (hash_of HashAlg.S
 digest_short HashAlg.Sha384 hashed = omega (arith, length-b64 (hash_of HashAlg.Sha384 hashed), length-sha384 hashed)
 digest_short HashAlg.Sha512 hashed = omega (arith, length-b64 (hash_of HashAlg.Sha512 hashed), length-sha512 hashed)
 
-abbrev header_data : port.Data
-header_data = port.object (port.member (codes "alg") (port.string (codes "HS256")) (port.member (codes "typ") (port.string (codes "kb+jwt")) port.no_members))
+abbrev header_data : Text → port.Data
+header_data alg = port.object (port.member (codes "alg") (port.string alg) (port.member (codes "typ") (port.string (codes "kb+jwt")) port.no_members))
 
-header_data_short : length (compact_text header_data) ≤ 116
-header_data_short =
+header_data_short : (alg : Text) (n : ℕ) → length alg ≤ n → length (compact_text (header_data alg)) ≤ 6 * n + 86
+header_data_short alg n h =
+    let last = port.member (codes "typ") (port.string (codes "kb+jwt")) port.no_members in
     let typ = member_within true (codes "typ") (port.string (codes "kb+jwt")) port.no_members 38 1 (text_within (codes "kb+jwt") 6 (omega arith)) end_within in
-    let alg = member_within false (codes "alg") (port.string (codes "HS256")) (port.member (codes "typ") (port.string (codes "kb+jwt")) port.no_members) 32 61 (text_within (codes "HS256") 5 (omega arith)) typ in
-    braced (members_text false (port.member (codes "alg") (port.string (codes "HS256")) (port.member (codes "typ") (port.string (codes "kb+jwt")) port.no_members))) 115 alg
+    let first = member_within false (codes "alg") (port.string alg) last (6 * n + 2) 61 (text_within alg n h) typ in
+    let whole = braced (members_text false (port.member (codes "alg") (port.string alg) last)) _ first in
+    omega (arith, whole)
 
-header_short : length (json_text (object (header_members (binding_header (codes "HS256"))))) ≤ 116
-header_short = header_data_short
+-- JSON writes each byte of the name as at most six
+pub header_short : (alg : Text) (n : ℕ) → length alg ≤ n → length (json_text (object (header_members (binding_header alg)))) ≤ 6 * n + 86
+header_short alg n h = header_data_short alg n h
 
 abbrev claims_data : Text → ℕ → Text → Text → port.Data
 claims_data aud iat nonce sd_hash =
@@ -110,7 +113,7 @@ claims_data_short aud nonce sd_hash iat a n h i =
     let at_first = member_within false (codes "aud") (port.string aud) second 1538 1749 (text_within aud 256 a) at_second in
     braced (members_text false (port.member (codes "aud") (port.string aud) second)) 3309 at_first
 
-claims_short : (hash : HashAlg) (hashed aud nonce : Text) (iat : ℕ) → length aud ≤ 256 → length nonce ≤ 256 → iat < 2 ^ 64
+pub claims_short : (hash : HashAlg) (hashed aud nonce : Text) (iat : ℕ) → length aud ≤ 256 → length nonce ≤ 256 → iat < 2 ^ 64
     → length (json_text (object (claim_members (claims_for hash hashed aud nonce iat)))) ≤ 3310
 claims_short hash hashed aud nonce iat a n i = claims_data_short aud nonce (digest_of hash hashed) iat a n (omega (arith, digest_quoted hash hashed, digest_short hash hashed)) i
 
@@ -132,7 +135,7 @@ binding_short key hash hashed aud nonce iat token a n i is =
       length-b64 (json_text (object (header_members (binding_header (codes "HS256"))))),
       length-b64 (json_text (object (claim_members (claims_for hash hashed aud nonce iat)))),
       length-b64 is.signature,
-      header_short,
+      header_short (codes "HS256") 5 (omega arith),
       claims_short hash hashed aud nonce iat a n i,
       length-append token.protected (46 ∷ (token.payload ++ 46 ∷ token.signature)),
       length-append token.payload (46 ∷ token.signature),

@@ -16,17 +16,16 @@ ghost use Rattle.hmac_sign.specs.declared.key_set.NamedKey.{NamedKey};
 ghost use Rattle.key_binding.specs.Judged.{Judged, of_keys, holder_key};
 ghost use Rattle.sd_outside.specs.Limits.{binding_text_max};
 
-use hmac_sign::Signer;
+use hmac_sign::Signatures;
 
-/// What is bound is accepted by who trusts the signer: for one of these
-/// audiences and this nonce, and over this text, as long as it is fresh. It is
-/// so at the very second of each limit, whatever the algorithm.
-pub fn bound_is_trusted<S: Signer>()
-    ensures { (signer : S) (aud : List ℕ) (iat : ℕ) (j : Judged)
-        → IsBinding (S.alg_name_of signer) (S.good signer) j.hash j.hashed aud j.rules.nonce iat
-        j.token
-        → IsReadBack (S.alg_name_of signer) j.hash j.hashed aud j.rules.nonce iat j.token
-        → TrustsHolder j.rules.holders j.payload (S.alg_name_of signer) (S.good signer)
+/// What is bound, with whatever signatures and by an algorithm of any name, is accepted by whoever
+/// trusts these: for one of these audiences and this nonce, and over this text, as long as it is
+/// fresh. It is so at the very second of each limit.
+pub fn bound_is_trusted<S: Signatures>()
+    ensures { (signer : S) (alg aud : List ℕ) (iat : ℕ) (j : Judged)
+        → IsBinding alg (S.good signer) j.hash j.hashed aud j.rules.nonce iat j.token
+        → IsReadBack alg j.hash j.hashed aud j.rules.nonce iat j.token
+        → TrustsHolder j.rules.holders j.payload alg (S.good signer)
         → In aud j.rules.aud → j.now ≤ iat + j.rules.max_age + j.skew → iat ≤ j.now + j.skew
         → NoneFails (BindingFails j) }
 {}

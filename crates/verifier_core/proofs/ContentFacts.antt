@@ -9,6 +9,7 @@ use Rattle.claim_tree.proofs.ReadOrdered.{reads_ordered}
 use Rattle.refusals.specs.declared.fault.Place.TheVariants.{Nowhere, At}
 use Rattle.refusals.specs.declared.condition.Condition.{Condition}
 use Rattle.refusals.specs.Lowest.{NoneFails}
+use Rattle.refusals.specs.Passing.{Passes}
 use Rattle.digest_sites.specs.Given.{Given}
 use Rattle.disclosure.specs.declared.digests.HashAlg.{HashAlg}
 use Rattle.disclosure.specs.Disclosure.{array_of}
@@ -46,18 +47,22 @@ content_readable token p g has = record {
 
 -- ---- no condition fails
 
-pub content_sound : (token : Token) (rules : Rules) (p : Tree) (g : List Given) → HasContent token p g → NoneFails (TokenFails token rules) → IsSound p g
-content_sound token rules p g has none = record {
+-- none below 22
+pub content_passes : (token : Token) (rules : Rules) (p : Tree) (g : List Given) → HasContent token p g → Passes 22 (TokenFails token rules) → IsSound p g
+content_passes token rules p g has passes = record {
   referenced = record {
-    no_repeated_disclosure = λ i h. none Condition.RepeatedDisclosure (At i) (i, refl, (p, g, has, h));
-    no_misuse = λ i h. none Condition.ReservedMisused (At i) (i, refl, (p, g, has, h));
-    no_repeated_digest = λ i h. none Condition.RepeatedDigest (At i) (i, refl, (p, g, has, h));
-    no_unreferenced = λ i h. none Condition.UnreferencedDisclosure (At i) (i, refl, (p, g, has, h));
+    no_repeated_disclosure = λ i h. let low = passes Condition.RepeatedDisclosure (At i) (i, refl, (p, g, has, h)) in omega (arith, low);
+    no_misuse = λ i h. let low = passes Condition.ReservedMisused (At i) (i, refl, (p, g, has, h)) in omega (arith, low);
+    no_repeated_digest = λ i h. let low = passes Condition.RepeatedDigest (At i) (i, refl, (p, g, has, h)) in omega (arith, low);
+    no_unreferenced = λ i h. let low = passes Condition.UnreferencedDisclosure (At i) (i, refl, (p, g, has, h)) in omega (arith, low);
   };
   named = record {
-    no_wrong_shape = λ i h. none Condition.WrongShape (At i) (i, refl, (p, g, has, h));
-    no_reserved_name = λ i h. none Condition.ReservedName (At i) (i, refl, (p, g, has, h));
-    no_name_clash = λ i h. none Condition.NameClash (At i) (i, refl, (p, g, has, h));
+    no_wrong_shape = λ i h. let low = passes Condition.WrongShape (At i) (i, refl, (p, g, has, h)) in omega (arith, low);
+    no_reserved_name = λ i h. let low = passes Condition.ReservedName (At i) (i, refl, (p, g, has, h)) in omega (arith, low);
+    no_name_clash = λ i h. let low = passes Condition.NameClash (At i) (i, refl, (p, g, has, h)) in omega (arith, low);
   };
-  shallow = (let low = lt_of_not-le (λ more. none Condition.TooDeep Nowhere (refl, (p, g, has, more))) in omega (arith, low));
+  shallow = (let low = lt_of_not-le (λ more. let deep = passes Condition.TooDeep Nowhere (refl, (p, g, has, more)) in omega (arith, deep)) in omega (arith, low));
 }
+
+pub content_sound : (token : Token) (rules : Rules) (p : Tree) (g : List Given) → HasContent token p g → NoneFails (TokenFails token rules) → IsSound p g
+content_sound token rules p g has none = content_passes token rules p g has (λ c place fails. absurd (none c place fails))

@@ -3,4 +3,4 @@ use Rattle.issuer_core.proofs.FromLaid.{parts_are_issued_holds}
 use Rattle.issuer_core.proofs.laws.parts_are_issued.Goals as goal
 
 pub returns : goal.returns
-returns g c signer = parts_are_issued_holds (g.S.Signer.alg_name_of signer) (g.S.Signatures.good signer)
+returns g c signer alg = parts_are_issued_holds alg (g.S.Signatures.good signer)
