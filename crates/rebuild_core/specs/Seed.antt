@@ -1,4 +1,5 @@
--- Not needed to believe the program's promises: the seed by which the digests of a token are hashed.
+-- Not needed to believe the program's promises: the seed by which the digests
+-- of a token are hashed.
 use Rattle.std.specs.Prelude.{ℕ, List}
 use Rattle.std.specs.List.{fold}
 use Rattle.std.specs.Hash.DefaultHasher.{initial, write, finish}
