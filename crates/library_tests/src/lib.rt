@@ -20,6 +20,10 @@ mod look_up_tests;
 #[cfg(test)]
 mod presenting_tests;
 #[cfg(test)]
+mod recorded_tests;
+#[cfg(test)]
+mod recording;
+#[cfg(test)]
 mod signing_tests;
 #[cfg(test)]
 mod verifier_tests;

@@ -120,6 +120,17 @@ fn unsigned(alloc: Global) -> Result<UnsignedPresentation, Fail> {
     }
 }
 
+#[test]
+fn no_bytes_are_no_signature(rt: HostRuntime) -> Result<(), Fail> {
+    let alloc = rt.alloc();
+    let unsigned = unsigned(alloc)?;
+    assert_eq!(rt;
+        unsigned.signed(alloc, &[]).err(),
+        Some(PresentError::SignFailed)
+    );
+    Ok(())
+}
+
 // The payload beside it tells the key of the holder. The signature is the base64url text of its
 // bytes.
 #[test]

@@ -64,6 +64,16 @@ fn a_signature_made_apart_makes_the_same_token(rt: HostRuntime) -> Result<(), Fa
     Ok(())
 }
 
+#[test]
+fn no_bytes_are_no_signature(rt: HostRuntime) -> Result<(), Fail> {
+    let alloc = rt.alloc();
+    let order = read_unsigned_order(alloc, UNKEYED.as_bytes()).map_err(|_| "no order")?;
+    let token = to_sign(alloc, order, &SEED, "ES256").map_err(|_| "not to be signed")?;
+    let unsigned = token.signed(alloc, &[]);
+    assert!(rt; matches!(unsigned, Err(IssueError::SignFailed)));
+    Ok(())
+}
+
 // Its header is `{"alg":"ES256","kid":"k","typ":"t"}`.
 #[test]
 fn the_header_names_the_algorithm_of_whoever_signs(rt: HostRuntime) -> Result<(), Fail> {
