@@ -32,6 +32,7 @@ from sdjwt import _library
 from sdjwt._asking import Asking, CheckFunction, Question, asking_of, skipped_of
 from sdjwt._built import PROVED as proved
 from sdjwt._built import VERSION as __version__
+from sdjwt._confirmed import refuse_secret_key
 from sdjwt._detail import ASKED, UNSIGNED
 from sdjwt._errors import NoCryptography, OutOfMemory, Refused, SdJwtError, TooLong, Unreadable, unreadable
 from sdjwt._given import MOST, file_bytes, held_bytes, moment, seed_bytes, token_bytes
@@ -94,7 +95,8 @@ def issue(
     cryptography, or a function that is given the bytes to sign and answers the signature. A key of P-256, P-384, P-521 or Ed25519
     signs by ES256, ES384, ES512 or EdDSA. For one of RSA `alg` names the algorithm: PS256, PS384, PS512, RS256, RS384 or RS512.
     For a function `alg` names its algorithm, and the signature is the one that a JWS has: of ES256 the 64 bytes of r and s, and
-    not the DER that many a vault answers. It is asked once, and not for an order that 51 to 60 refuse.
+    not the DER that many a vault answers. It is asked once, and not for an order that 51 to 60 refuse. A private or secret member
+    in `cnf.jwk` of the payload is a ValueError.
 
     >>> def vault(text):
     ...     return bytes(64)                # the signature that your vault makes of these bytes
@@ -103,6 +105,7 @@ def issue(
     {'alg': 'ES256', 'kid': 'k1'}
     """
     ordered = file_bytes(order, "order")
+    refuse_secret_key(ordered)
     salted = secrets.token_bytes(32) if seed is None else seed_bytes(seed)
     if sign is not None:
         called = signer_of(sign, alg).issue(ordered, salted)
