@@ -157,14 +157,15 @@ SDJWT_CHECKED sdjwt_status sdjwt_present(const uint8_t *order, size_t order_len,
  * call keeps anything, so give each the same order, token and moment, and what you said before.
  *
  * The order is that of sdjwt_present without its two keys. In the place of `keys` it must have `algs`, a list of the
- * algorithms that you take of the issuer, as in ""algs": ["ES256"]"; "none", "" and names that begin with HS are
- * never taken, also where they stand there. `want` and `never` are as ever. A `binding` has `aud`, `nonce` and `alg`,
- * the name of the algorithm by which you sign, and no `key`; it may have `kid`, and then the claim `cnf` of what is
- * shown has to name this key. Where it has none, that the key is the one of `cnf` is yours to know.
+ * algorithms that you take of the issuer, as in ""algs": ["ES256"]"; "none" and "" are never taken, also where they
+ * stand there. `want` and `never` are as ever. A `binding` has `aud`, `nonce` and `alg`, the name of the algorithm by
+ * which you sign, and no `key`; it may have `kid`, and then the claim `cnf` of what is shown has to name this key.
+ * Where it has none, that the key is the one of `cnf` is yours to know.
  *
  * YOU ANSWER for your word and your signature. Say SDJWT_GOOD only where you checked `signature` over just the bytes of
- * `text`, with the algorithm `alg`, under a key of the issuer's that you had before the token came. Sign just the
- * `*len` bytes of the answer, once the order is what its user agreed to: whoever sees it learns what is shown.
+ * `text`, with the algorithm `alg`, under a key of the issuer's that you had before the token came, and whose type
+ * serves `alg`: an HMAC, as HS256, under no public key. Sign just the `*len` bytes of the answer, once the order is
+ * what its user agreed to: whoever sees it learns what is shown.
  */
 SDJWT_CHECKED sdjwt_status sdjwt_present_ask(const uint8_t *order, size_t order_len,
                                              const uint8_t *token, size_t token_len, uint64_t now,
@@ -274,11 +275,16 @@ SDJWT_CHECKED sdjwt_status sdjwt_policy_verify(sdjwt_policy *handle,
  * The policy is that of sdjwt_verify. Its keys are not looked at, nor are those of its binding. Its `algs` are the
  * algorithms that you take of the issuer, and `algs` is a JSON list of those that you take of the holder, as
  * "[\"ES256\"]"; of no bytes it stands for the `algs` of the policy. Where it is no list of texts, the line is
- * "unreadable 2 wrong algs\n". "none", "" and names that begin with HS are never taken, also where they stand there.
+ * "unreadable 2 wrong algs\n". "none" and "" are never taken, also where they stand there.
  *
  * YOU ANSWER for your word. Say SDJWT_GOOD only where you checked `signature` over just the bytes of `text`, with the
  * algorithm `alg`, under a key that you trust and that serves this algorithm: for the issuer one that you had before
  * the token came, and for the holder that of `cnf` in the `payload` of the question. Take no key out of a header.
+ *
+ * TAKE THE KEY BY `alg` AND BY ITS TYPE. A name of shared keys, as HS256, is asked about where a list has it, and a
+ * policy without `algs` lists HS256. Check an HMAC only under a key that was made for HMAC, never under the bytes of a
+ * public key, which everybody has (RFC 8725 section 3.1), and take no secret out of a token. Whose keys are all public
+ * lists no such name.
  */
 SDJWT_CHECKED sdjwt_status sdjwt_judge(const uint8_t *policy, size_t policy_len,
                                        const uint8_t *algs, size_t algs_len,

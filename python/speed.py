@@ -96,7 +96,7 @@ def peers(jwt):
 
 
 class Public:
-    """The same token signed with ES256, and the parts of its verification."""
+    """The same token signed with ES256, and the parts of its verification; and a policy for both kinds of keys."""
 
     def __init__(self, shown):
         from cryptography.hazmat.primitives import hashes
@@ -114,12 +114,13 @@ class Public:
         self.policy = sdjwt.Policy({**POLICY, "keys": {"keys": [jwk]}, "algs": ["ES256"]})
         check = self.policy._asking._checking.issuers[0].checks["ES256"]
         self.check = lambda: check(signature, text.encode())
+        self.mixed = sdjwt.Policy({**POLICY, "keys": {"keys": [jwk, *POLICY["keys"]["keys"]]}, "algs": ["ES256", "HS256"]})
         # the same, where the answer costs nothing
         self.unchecked = sdjwt.Policy({**POLICY, "keys": {"keys": []}, "algs": ["ES256"]}, check=lambda question: True)
 
 
 def tell_public(shown, seconds):
-    """How long a token of ES256 takes, with its signature and without."""
+    """How long a token of ES256 takes, with its signature and without, and one of HS256 beside a public key."""
     try:
         public = Public(shown)
     except ImportError:
@@ -128,6 +129,7 @@ def tell_public(shown, seconds):
     tell("Policy.verify of ES256", lambda: public.policy.verify(public.token), seconds)
     tell("its signature alone, by cryptography", public.check, seconds)
     tell("Policy.verify of ES256, but for the signature", lambda: public.unchecked.verify(public.token), seconds)
+    tell("Policy.verify of HS256 beside a public key", lambda: public.mixed.verify(shown.encode()), seconds)
 
 
 def main():

@@ -43,8 +43,8 @@ CALLS = {"verify": "bbm", "present": "bbm", "issue": "bb", "show": "b", "split":
          "wallet": "bt", **OF_CALLERS}
 LAW = "presented_to_caller"
 COMMANDS = (*CALLS, LAW)
-TAKEN = ["ES256", "ES256", "EdDSA", "PS256", "\u00e9", "es256", "None", "hs256"]
-NEVER_TAKEN = ["HS256", "HS384", "HS512", "HS", "HSX", "none", ""]
+TAKEN = ["ES256", "ES256", "EdDSA", "PS256", "HS256", "HS512", "HSX", "\u00e9", "es256", "None", "hs256"]
+NEVER_TAKEN = ["none", ""]
 
 
 # The reading ----------------------------------------------------------------------------------------------------------
@@ -70,8 +70,8 @@ class Caller:
 
 
 def is_taken(alg: str, algs: List[str]) -> bool:
-    """Whether a caller may take an algorithm: never one of a shared key, or none."""
-    return alg in algs and alg not in ("", "none") and not alg.startswith("HS")
+    """Whether a caller takes an algorithm: one of its list, but never `none`."""
+    return alg in algs and alg not in ("", "none")
 
 
 def named(asked: str, header: Dict[str, Any]) -> Dict[str, Any]:

@@ -4,10 +4,11 @@
     python3 c/fuzz/corpus.py FOLDER           writes them to FOLDER/CALL, a file each
     python3 c/fuzz/corpus.py --keep FOLDER    puts those of FOLDER/CALL into found.tar.xz, for each call that is there
 
-Each run of a vector of vectors/ is an input: the files that it reads, with a zero byte between two. What an earlier run
-keeps is found by tests/reference. To these come cases that tests/fuzz.py and tests/library.py grow. Runs of other
-commands, of files that are not there, of files with a zero byte, and of more than 16 KiB are left out. found.tar.xz has
-what a fuzzer found beside these: texts that reach other code.
+Each run of a vector of vectors/ is an input: the files that it reads, with a zero byte between two. One of verify is one
+of judge too, with what is said of the signatures. What an earlier run keeps is found by tests/reference. To these come
+cases that tests/fuzz.py and tests/library.py grow. Runs of other commands, of files that are not there, of files with a
+zero byte, and of more than 16 KiB are left out. found.tar.xz has what a fuzzer found beside these: texts that reach
+other code.
 """
 import hashlib
 import io
@@ -70,6 +71,9 @@ def inputs(vector):
             parts = [*parts[1:], b"x" * library.FORMS.index(words[0])]
         if call in CALLS and parts and None not in parts:
             yield call, parts
+        if call == "verify" and len(parts) == 2 and None not in parts:
+            for said in ((library.UNSAID, library.UNSAID), (library.GOOD, library.UNSAID), (library.GOOD, library.GOOD)):
+                yield "judge", [parts[0], b'["HS256"]', parts[1], *(b"x" * word for word in said)]
         if call == "issue" and len(parts) == 2 and None not in parts:
             asked = [without_key(parts[0]), b"ES256", parts[1]]
             yield "ask", asked

@@ -302,6 +302,39 @@ static void judging(void) {
     sdjwt_policy_free(&handle);
 }
 
+/* Two tokens with key binding tokens of HS256, of which one is of HS256 and the other of none. */
+#define BY_SHARED "eyJhbGciOiJIUzI1NiJ9.eyJhIjoxfQ.AA~eyJhbGciOiJIUzI1NiIsInR5cCI6ImtiK2p3dCJ9.e30.AA"
+#define BY_NONE "eyJhbGciOiJub25lIn0.eyJhIjoxfQ.AA~eyJhbGciOiJIUzI1NiIsInR5cCI6ImtiK2p3dCJ9.e30.AA"
+#define SHARED_QUESTION "{\"alg\":\"HS256\",\"ask\":\"issuer\",\"signature\":\"AA\",\"text\":\"eyJhbGciOiJIUzI1NiJ9.eyJhIjoxfQ\"}\n"
+#define HOLDER_QUESTION "{\"alg\":\"HS256\",\"ask\":\"holder\",\"payload\":{\"a\":1},\"signature\":\"AA\"," \
+    "\"text\":\"eyJhbGciOiJIUzI1NiIsInR5cCI6ImtiK2p3dCJ9.e30\",\"typ\":\"kb+jwt\"}\n"
+#define DOOR(words) "{\"keys\":{\"keys\":[]}" words ",\"binding\":{\"aud\":\"v\",\"nonce\":\"n\",\"max_age\":0,\"keys\":{\"keys\":[]}}}"
+
+/* What is told of them: a list has to name HS256, as one that is missing does, and none can name none. */
+static const struct { const char *policy, *algs, *token; uint8_t issuer; sdjwt_status status; const char *text; } listings[] = {
+    {DOOR(""), "", BY_SHARED, SDJWT_UNSAID, SDJWT_ASKS, SHARED_QUESTION},
+    {DOOR(",\"algs\":[\"ES256\",\"HS256\"]"), "[]", BY_SHARED, SDJWT_UNSAID, SDJWT_ASKS, SHARED_QUESTION},
+    {DOOR(",\"algs\":[\"ES256\"]"), "[\"HS256\"]", BY_SHARED, SDJWT_UNSAID, SDJWT_REFUSED, "refused 7 algRefused\n"},
+    {DOOR(",\"algs\":[\"none\",\"HS256\"]"), "", BY_NONE, SDJWT_UNSAID, SDJWT_REFUSED, "refused 7 algRefused\n"},
+    {DOOR(""), "", BY_SHARED, SDJWT_GOOD, SDJWT_ASKS, HOLDER_QUESTION},
+    {DOOR(""), "[\"HS384\",\"HS256\"]", BY_SHARED, SDJWT_GOOD, SDJWT_ASKS, HOLDER_QUESTION},
+    {DOOR(""), "[\"ES256\",\"HS384\"]", BY_SHARED, SDJWT_GOOD, SDJWT_REFUSED, "refused 29 bindingAlg\n"},
+    {DOOR(""), "[]", BY_SHARED, SDJWT_GOOD, SDJWT_REFUSED, "refused 29 bindingAlg\n"},
+};
+
+static void listing(void) {
+    uint8_t out[512];
+    for (size_t i = 0; i < sizeof listings / sizeof *listings; i++) {
+        const uint8_t *policy = (const uint8_t *)listings[i].policy, *algs = (const uint8_t *)listings[i].algs;
+        const uint8_t *token = (const uint8_t *)listings[i].token;
+        const char *text = listings[i].text;
+        size_t len = 12345;
+        sdjwt_status status = sdjwt_judge(policy, strlen(listings[i].policy), algs, strlen(listings[i].algs), token,
+                                          strlen(listings[i].token), 0, listings[i].issuer, SDJWT_UNSAID, out, sizeof out, &len);
+        CHECK(status == listings[i].status && len == strlen(text) && memcmp(out, text, len) == 0, text);
+    }
+}
+
 /* What is said of an order without a key: the text that is to be signed, or its line; then the token with a signature. */
 #define SIGNED "eyJhbGciOiJFUzI1NiJ9.eyJfc2QiOlsiRVNRVzNfaHRvV25MV0V2bGRjZlZLbmU5ZUcwWGQ5eHh5ajJxZ1hiOC1mYyJdLCJfc2RfYWxnIjoic2hhLTI1NiJ9"
 #define HIDING "{\"payload\":{\"a\":1},\"hide\":[\"/a\"]}"
@@ -361,6 +394,7 @@ static void signing(void) {
 #define WISH "{\"algs\":[\"ES256\"],\"binding\":{\"alg\":\"ES256\",\"aud\":\"a\",\"nonce\":\"n\"}}"
 #define UNBOUND "{\"algs\":[\"ES256\"],\"want\":[\"/a\"]}"
 #define PRESENTS(word) "{\"algs\":[\"ES256\"]," word "}"
+#define OF_SHARED "eyJhbGciOiJIUzI1NiJ9.eyJhIjoxfQ.AA~"
 static const struct { const char *order, *token; uint8_t said; size_t signature_len; sdjwt_status asked, signs; const char *text, *shown; } presentings[] = {
     {WISH, HELD, SDJWT_UNSAID, 1, SDJWT_ASKS, SDJWT_USAGE, ASKED, ""},
     {WISH, HELD, SDJWT_GOOD, 1, SDJWT_TO_SIGN, SDJWT_DONE, BINDING, HELD BINDING ".AA\n"},
@@ -374,6 +408,9 @@ static const struct { const char *order, *token; uint8_t said; size_t signature_
     {UNBOUND, HELD, SDJWT_GOOD, 1, SDJWT_DONE, SDJWT_DONE, HELD "\n", HELD "\n"},
     {UNBOUND, HELD, SDJWT_UNSAID, 1, SDJWT_ASKS, SDJWT_USAGE, ASKED, ""},
     {UNBOUND, "", SDJWT_GOOD, 1, SDJWT_REFUSED, SDJWT_REFUSED, "refused 2 form at 0\n", "refused 2 form at 0\n"},
+    {"{\"algs\":[\"HS256\"]}", OF_SHARED, SDJWT_UNSAID, 1, SDJWT_ASKS, SDJWT_USAGE, SHARED_QUESTION, ""},
+    {"{\"algs\":[\"HS256\"]}", OF_SHARED, SDJWT_GOOD, 1, SDJWT_DONE, SDJWT_DONE, OF_SHARED "\n", OF_SHARED "\n"},
+    {UNBOUND, OF_SHARED, SDJWT_GOOD, 1, SDJWT_REFUSED, SDJWT_REFUSED, "refused 7 algRefused\n", "refused 7 algRefused\n"},
     {PRESENTS("\"want\":[\"/b\"]"), HELD, SDJWT_GOOD, 1, SDJWT_REFUSED, SDJWT_REFUSED, "refused 72 wantedNotThere at 0\n", "refused 72 wantedNotThere at 0\n"},
     {PRESENTS("\"keys\":{\"keys\":[]}"), HELD, SDJWT_GOOD, 1, SDJWT_UNREADABLE, SDJWT_UNREADABLE, "unreadable 1 unknown\n", "unreadable 1 unknown\n"},
     {"{\"want\":[]}", HELD, SDJWT_GOOD, 1, SDJWT_UNREADABLE, SDJWT_UNREADABLE, "unreadable 1 missing algs\n", "unreadable 1 missing algs\n"},
@@ -518,6 +555,7 @@ int main(int count, char **words) {
     empty_inputs();
     rules_of_lengths();
     judging();
+    listing();
     signing();
     presenting();
     for (int refused = 0; refused < 2; refused++) {

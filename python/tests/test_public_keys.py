@@ -130,6 +130,12 @@ def test_a_key_that_says_another_use_is_not_taken(said):
     key = Key("ES256")
     token = signed(key, {"alg": "ES256", "kid": "a"}, {"a": 1}) + "~"
     policy = {"keys": {"keys": [{**key.jwk(kid="a"), **said}]}, "algs": ["ES256"]}
+    if said.keys() <= {"crv", "kty"}:
+        # of a type that is not known, and no other key is left
+        with pytest.raises(sdjwt.Unreadable) as caught:
+            sdjwt.Policy(policy)
+        assert caught.value.line == "unreadable 1 wrong keys" and caught.value.detail.startswith(f"at /keys/keys/0: its {list(said)[0]} is none of ")
+        policy["keys"]["keys"].append(key.jwk(kid="b"))
     assert refusal(policy, token) == "refused 9 issuerKeyUnknown"
     second = {**policy, "keys": {"keys": [*policy["keys"]["keys"], key.jwk(kid="a", alg="ES256", use="sig", key_ops=["sign", "verify"])]}}
     assert sdjwt.Policy(second).verify(token) == {"a": 1}
@@ -259,8 +265,11 @@ def test_shared_keys_alone_go_the_way_of_the_library():
     policy = sdjwt.Policy({"keys": {"keys": [shared]}, "algs": ["ES256", "HS256"]})
     assert policy._asking is None and policy.verify(sdjwt.issue({"payload": {"a": 1}, "key": shared["k"]})) == {"a": 1}
     assert sdjwt.Policy({"keys": {"keys": [shared, Key("ES256").jwk()]}})._asking is None
-    with pytest.raises(sdjwt.Unreadable):
-        sdjwt.Policy({"keys": {"keys": [shared]}, "algs": ["HS256"], "binding": {**POLICY["binding"], "aud": "door", "algs": ["ES256"]}})
+    bound = {"keys": {"keys": [shared]}, "algs": ["HS256"], "binding": {**POLICY["binding"], "aud": "door"}}
+    assert sdjwt.Policy(bound)._asking is None
+    # holders who have a list of their own may have public keys, so they are not alone
+    bound["binding"] = {**bound["binding"], "algs": ["ES256"]}
+    assert sdjwt.Policy(bound)._asking is not None
 
 
 # ---- attacks

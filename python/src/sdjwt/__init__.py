@@ -29,12 +29,14 @@ from time import time as _time
 from typing import TYPE_CHECKING, Any, Literal, Union
 
 from sdjwt import _library
-from sdjwt._asking import Asking, CheckFunction, Question, asking_of
+from sdjwt._asking import Asking, CheckFunction, Question, asking_of, skipped_of
 from sdjwt._built import PROVED as proved
 from sdjwt._built import VERSION as __version__
+from sdjwt._confirmed import refuse_secret_key
 from sdjwt._detail import ASKED, UNSIGNED
 from sdjwt._errors import NoCryptography, OutOfMemory, Refused, SdJwtError, TooLong, Unreadable, unreadable
 from sdjwt._given import MOST, file_bytes, held_bytes, moment, seed_bytes, token_bytes
+from sdjwt._key_sets import PrivateKeyWarning, SkippedKey
 from sdjwt._presenting import presenting_of
 from sdjwt._signing import SignFunction, signer_of
 
@@ -42,8 +44,9 @@ if TYPE_CHECKING:
     from sdjwt._signing import PrivateKey
 
 __all__ = [
-    "MOST", "NoCryptography", "OutOfMemory", "Picked", "Policy", "Question", "Refused", "SdJwtError", "TooLong",
-    "Unreadable", "__version__", "audit", "convert", "issue", "present", "proved", "show", "split", "verify", "wallet",
+    "MOST", "NoCryptography", "OutOfMemory", "Picked", "Policy", "PrivateKeyWarning", "Question", "Refused", "SdJwtError",
+    "SkippedKey", "TooLong", "Unreadable", "__version__", "audit", "convert", "issue", "present", "proved", "show", "split",
+    "verify", "wallet",
 ]
 
 Bytes = Union[bytes, bytearray, memoryview]
@@ -92,7 +95,8 @@ def issue(
     cryptography, or a function that is given the bytes to sign and answers the signature. A key of P-256, P-384, P-521 or Ed25519
     signs by ES256, ES384, ES512 or EdDSA. For one of RSA `alg` names the algorithm: PS256, PS384, PS512, RS256, RS384 or RS512.
     For a function `alg` names its algorithm, and the signature is the one that a JWS has: of ES256 the 64 bytes of r and s, and
-    not the DER that many a vault answers. It is asked once, and not for an order that 51 to 60 refuse.
+    not the DER that many a vault answers. It is asked once, and not for an order that 51 to 60 refuse. A private or secret member
+    in `cnf.jwk` of the payload is a ValueError.
 
     >>> def vault(text):
     ...     return bytes(64)                # the signature that your vault makes of these bytes
@@ -101,6 +105,7 @@ def issue(
     {'alg': 'ES256', 'kid': 'k1'}
     """
     ordered = file_bytes(order, "order")
+    refuse_secret_key(ordered)
     salted = secrets.token_bytes(32) if seed is None else seed_bytes(seed)
     if sign is not None:
         called = signer_of(sign, alg).issue(ordered, salted)
@@ -125,11 +130,11 @@ def present(
     >>> [disclosure["name"] for disclosure in show(shown)["disclosures"]]
     ['age']
 
-    A token that is signed with a private key is presented by an order that has the public keys of issuers in `keys`, and in `algs`
-    the algorithms that are taken of them, as a policy has them; `check` is a function for other keys, as in `Policy`. Its `binding`
-    has `aud` and `nonce` and no key: `sign` makes the signature of the key binding token, and `alg` names its algorithm, as in
-    `issue`. Where `binding` has a `kid`, the claim `cnf` of what is shown has to name it; else which key the holder signs with is
-    not looked at. `sign` is asked once, and not for what 71 to 74, or a condition of the token, refuse.
+    A token that is signed with a private key is presented by an order that has the public keys of issuers in `keys`, shared ones
+    beside them, and in `algs` the algorithms that are taken, as a policy has them; `check` is a function for other keys, as in
+    `Policy`. Its `binding` has `aud` and `nonce` and no key: `sign` makes the signature of the key binding token, and `alg` names
+    its algorithm, as in `issue`. Where `binding` has a `kid`, the claim `cnf` of what is shown has to name it; else which key the
+    holder signs with is not looked at. `sign` is asked once, and not for what 71 to 74, or a condition of the token, refuse.
 
     >>> token = issue({"payload": {"name": "Ada", "age": 7}, "hide": ["/name", "/age"]}, sign=lambda text: bytes(64), alg="ES256")
     >>> order = {"algs": ["ES256"], "want": ["/age"], "binding": {"aud": "https://door.example", "nonce": "4711"}}
@@ -178,9 +183,11 @@ class Policy:
 
     Its `keys` may have public keys beside those of the kind `oct`, where its `algs` name their algorithms: ES256, ES384,
     ES512, EdDSA, PS256, RS256 and the like. Signatures under them are checked by the package cryptography. The key of a
-    holder is `cnf.jwk` of the token, or the key of the `keys` of the `binding` that `cnf.kid` names, and `binding` may
-    have `algs` of its own. `check` is a function that is asked of a signature for which no key is here, by a `Question`:
-    it answers True where it is good, False where it is bad, and None where it has no key for it.
+    holder is `cnf.jwk` of the token, or the key of the `keys` of the `binding` that `cnf.kid` names. `binding` may have
+    `algs` of its own, which are then the algorithms of holders; `keys` may be missing in it, where one of these is of
+    public keys. A key that is none is passed over, which `skipped_keys` tells. `check` is a function that is asked of a
+    signature for which no key is here, by a `Question`: it answers True where it is good, False where it is bad, and None
+    where it has no key for it. Of an HMAC it is not asked.
 
     >>> key = "dGhlIHRpY2tldCBvZmZpY2Uga2V5LCBub3QgeW91cnM"
     >>> policy = Policy({"keys": {"keys": [{"kty": "oct", "k": key}]}, "require": ["seat"]})
@@ -225,6 +232,11 @@ class Policy:
             _answer(status, said)
         claims: dict[str, Any] = _read_json(said.decode())[0]
         return claims
+
+    @property
+    def skipped_keys(self) -> tuple[SkippedKey, ...]:
+        """The keys of the policy that check no signature, whatever their name and its `algs`, each with the reason for it."""
+        return skipped_of(self._text) if self._asking is None else self._asking.skipped
 
 
 # no wish of json.loads, as to tell the encoding of bytes, has to be looked for: the text is the library's

@@ -1,22 +1,28 @@
-"""A policy whose signatures are checked here: under its public keys, or by a function of the caller.
+"""A policy whose signatures are checked here: under its keys of both kinds, or by a function of the caller.
 
 No rule of SD-JWT stands here. The library judges the token, and asks of each signature whether it is good; what is decided
-is only under which key it is checked, and that says the package cryptography.
+is only under which key it is checked. A policy of shared keys alone is the library's from end to end.
 """
 from __future__ import annotations
 
 import json
+import re
 from collections.abc import Callable
 from dataclasses import dataclass
 from typing import Any, Optional
 
+from sdjwt import _library
 from sdjwt._errors import NoCryptography, Unreadable
-from sdjwt._library import ASKS, BAD, GOOD, REFUSED, UNKNOWN, UNSAID, Handle
-from sdjwt._public import BadKey, Check, PublicKey, decoded, find, public_key, serves
+from sdjwt._key_sets import KeySet, SkippedKey, has_set, is_oct, jwks, need_a_key, of_other_types, read_set, warn_of_private
+from sdjwt._keys import PUBLIC, BadKey, Check, Key, decoded, find, is_shared, key_of, serves
+from sdjwt._library import ASKS, BAD, GOOD, UNKNOWN, UNREADABLE, UNSAID, Handle
 
-_SHARED = ("HS256", "HS384", "HS512")
-# the line of an algorithm that is not taken begins so
-_OTHER_ALG = b"refused 7 "
+_USUAL = ["HS256"]
+_NO_KEYS: dict[str, Any] = {"keys": {"keys": []}}
+# What a text has that may be read here: in JSON a name can be written otherwise only by escapes.
+_HINTS = re.compile(rb'algs|\\u|"(?:d|p|q|dp|dq|qi|oth)"')
+# A text is no object of whole numbers, which the library tells by its place in the text as it was given.
+_TEXT_FAULTS = (b"tooLong", b"notJson", b"notWhole", b"notObject")
 _read_json = json.JSONDecoder().raw_decode
 
 
@@ -42,70 +48,82 @@ CheckFunction = Callable[[Question], Optional[bool]]
 
 
 class Checking:
-    """What is said of signatures: under the public keys of issuers and of holders, or by a function of the caller."""
+    """What is said of signatures: under the keys of issuers and of holders, or by a function of the caller."""
 
     __slots__ = ("check", "holders", "issuers")
 
     def __init__(self, check: CheckFunction | None) -> None:
         self.check = check
-        self.issuers: list[PublicKey] = []
-        self.holders: list[PublicKey] = []
+        self.issuers: list[Key] = []
+        self.holders: list[Key] = []
 
     def answer(self, question: bytes) -> int:
-        """What is said of the signature of a question."""
+        """What is said of the signature of a question. A function is asked of no HMAC, which shared keys alone may check."""
         asked = _read_json(question.decode())[0]
         alg, text, signature = asked["alg"], asked["text"].encode(), decoded(asked["signature"])
         payload = asked.get("payload")
         check = find(self.issuers, alg, asked.get("kid")) if payload is None else self._of_holder(payload, alg)
         if check is not None:
             return GOOD if check(signature, text) else BAD
-        if self.check is None:
+        if self.check is None or is_shared(alg):
             return UNKNOWN
         return _said(self.check(Question(asked["ask"], alg, asked.get("kid"), asked.get("typ"), text, signature, payload)))
 
     def _of_holder(self, payload: dict[str, Any], alg: str) -> Check | None:
-        """The check under the key that `cnf` has, or names among those of the binding (RFC 7800 section 3)."""
+        """The check under the key that `cnf` names among those of the binding, or has (RFC 7800 section 3).
+
+        A shared key is only ever one of the binding: what is in a token can be read by all.
+        """
         confirmed = payload.get("cnf")
         if not isinstance(confirmed, dict):
             return None
-        if "jwk" not in confirmed:
-            kid = confirmed.get("kid")
-            return find(self.holders, alg, kid) if isinstance(kid, str) else None
-        jwk = confirmed["jwk"]
-        if not isinstance(jwk, dict) or alg not in serves(jwk):
-            return None
-        try:
-            key = public_key(jwk)
-        except (BadKey, NoCryptography):
-            return None
-        return None if key is None else key.checks[alg]
+        if "jwk" in confirmed and not is_shared(alg):
+            return _check_under(confirmed["jwk"], alg)
+        kid = confirmed.get("kid")
+        return find(self.holders, alg, kid) if isinstance(kid, str) else None
+
+
+def _check_under(jwk: object, alg: str) -> Check | None:
+    """The check by an algorithm under the public key that a token has."""
+    if not isinstance(jwk, dict) or alg not in serves(jwk):
+        return None
+    try:
+        return key_of(jwk).checks[alg]
+    except (BadKey, NoCryptography):
+        return None
 
 
 class Asking:
-    """What answers the questions about the tokens of a policy. `file` is the policy as the library takes it."""
+    """What answers the questions about the tokens of a policy. `file` is the policy as the library takes it.
 
-    __slots__ = ("_algs", "_checking", "_has_shared", "_policy", "file")
+    `skipped` are the keys of its sets that check nothing.
+    """
 
-    def __init__(self, policy: dict[str, Any], text: bytes, check: CheckFunction | None) -> None:
+    __slots__ = ("_algs", "_checking", "_policy", "file", "skipped")
+
+    def __init__(self, policy: dict[str, Any], check: CheckFunction | None) -> None:
         self._policy, self._checking = policy, Checking(check)
-        self._has_shared = any(jwk.get("kty") == "oct" for jwk in _jwks(policy))
-        self._algs, self.file = b"", text
+        self.skipped: tuple[SkippedKey, ...] = ()
         binding = policy.get("binding")
+        self._algs = b""
         if isinstance(binding, dict) and "algs" in binding:
             self._algs = json.dumps(binding["algs"]).encode()
-            rest = {name: value for name, value in binding.items() if name != "algs"}
-            self.file = json.dumps({**policy, "binding": rest}).encode()
+        self.file = json.dumps(_without_keys(policy)).encode()
 
     def read_keys(self) -> None:
-        """Reads the public keys, of a policy that the library has taken."""
-        self._checking.issuers = public_keys(self._policy, "keys", "")
-        binding = self._policy.get("binding")
-        if binding is None:
-            return
-        self._checking.holders = public_keys(binding, "binding", "/binding")
-        algs = binding.get("algs", [])
+        """Reads the keys, of a policy that the library has taken."""
+        checking, algs, binding = self._checking, _holder_algs(self._policy), self._policy.get("binding")
         if not isinstance(algs, list) or not all(isinstance(alg, str) for alg in algs):
             raise Unreadable("unreadable 1 wrong binding", "at /binding/algs: it is to be a list of texts")
+        issuers = read_set(self._policy, "keys", "", "policy")
+        holders = read_set(binding, "binding", "/binding", "policy") if binding is not None else KeySet([], (), [])
+        self.skipped = issuers.skipped + holders.skipped
+        checking.issuers, checking.holders = issuers.keys, holders.keys
+        if checking.check is None:
+            need_a_key(issuers, self._policy.get("algs", _USUAL), "keys")
+            need_a_key(holders, algs, "binding")
+            if binding is not None and any(alg in PUBLIC for alg in algs):
+                _need_cryptography()
 
     def verify(self, handle: Handle, token: bytes, now: int) -> tuple[int, bytes]:
         """The status, and the claims or the line."""
@@ -115,9 +133,34 @@ class Asking:
             status, said = handle.judge(self._algs, token, now, issuer, UNSAID)
             if status == ASKS:
                 status, said = handle.judge(self._algs, token, now, issuer, self._checking.answer(said))
-        elif status == REFUSED and self._has_shared and said.startswith(_OTHER_ALG):
-            return handle.verify(token, now)
         return status, said
+
+
+def _need_cryptography() -> None:
+    """The key of a holder that a token has is read when the token comes, so that it can be is said before."""
+    try:
+        from sdjwt import _signatures  # noqa: F401
+    except ImportError as missing:
+        raise NoCryptography() from missing
+
+
+def _holder_algs(policy: dict[str, Any]) -> Any:
+    """The algorithms of holders: those of the binding, or those of the policy."""
+    binding = policy.get("binding")
+    usual = policy.get("algs", _USUAL)
+    return binding.get("algs", usual) if isinstance(binding, dict) else usual
+
+
+def _without_keys(policy: dict[str, Any]) -> dict[str, Any]:
+    """A policy as the library takes it, which looks at no key where the caller checks: with sets of none, and no list of holders."""
+    said = {**policy, **(_NO_KEYS if has_set(policy) else {})}
+    binding = policy.get("binding")
+    if isinstance(binding, dict):
+        rest = {name: value for name, value in binding.items() if name != "algs"}
+        # where holders have public keys these are in the tokens, and no set is wanted
+        is_free = "keys" not in binding and has_other(_holder_algs(policy))
+        said["binding"] = {**rest, **(_NO_KEYS if is_free or has_set(binding) else {})}
+    return said
 
 
 def need_function(check: object) -> None:
@@ -127,21 +170,50 @@ def need_function(check: object) -> None:
 
 
 def asking_of(text: bytes, check: CheckFunction | None) -> Asking | None:
-    """How a policy asks. None where the library checks by itself: it has oct keys alone, or takes no other algorithm."""
+    """How a policy asks. None where the library checks by itself, as it does for one of shared keys alone."""
     need_function(check)
-    # in JSON a name can be written otherwise only by escapes
-    policy = read_object(text) if check is not None or b"algs" in text or b"\\u" in text else None
+    policy = read_object(text, check is not None)
     if policy is None:
         return None
-    if takes_others(policy) and (check is not None or any(jwk.get("kty") != "oct" for jwk in _jwks(policy))):
-        return Asking(policy, text, check)
-    if check is not None:
+    if check is not None and not has_other(policy.get("algs")) and not has_other(_holder_algs(policy)):
         raise ValueError("sdjwt: check is given, and no algorithm in algs of the policy is one that it is asked about")
-    return None
+    if check is None and not _is_checked_here(policy):
+        for holder, place in _holders(policy):
+            warn_of_private(holder, place, "policy")
+        return None
+    return None if _is_no_object(text) else Asking(policy, check)
 
 
-def read_object(text: bytes) -> dict[str, Any] | None:
-    """The object of a policy or an order, or None where the library is to say what is wrong with it."""
+def _is_checked_here(policy: dict[str, Any]) -> bool:
+    """Whether a policy is not of shared keys alone: holders have a list of their own, or another key than an `oct` one may sign."""
+    binding = policy.get("binding")
+    if isinstance(binding, dict) and "algs" in binding:
+        return True
+    return has_other(policy.get("algs")) and (isinstance(binding, dict) or not all(map(is_oct, jwks(policy))))
+
+
+def _is_no_object(text: bytes) -> bool:
+    """Whether the library reads no object of whole numbers, whatever its members are."""
+    status, line = _library.call("verify", text, b"", 0)
+    return status == UNREADABLE and line.split()[2] in _TEXT_FAULTS
+
+
+def _holders(policy: dict[str, Any]) -> list[tuple[dict[str, Any], str]]:
+    """What has key sets in a policy, each with its place."""
+    binding = policy.get("binding")
+    return [(policy, ""), *([(binding, "/binding")] if isinstance(binding, dict) else [])]
+
+
+def skipped_of(text: bytes) -> tuple[SkippedKey, ...]:
+    """The keys of a policy that the library reads over by itself."""
+    policy = read_object(text, True) or {}
+    return tuple(key for holder, place in _holders(policy) for key in of_other_types(holder, "binding" if place else "keys"))
+
+
+def read_object(text: bytes, is_needed: bool) -> dict[str, Any] | None:
+    """The object of a policy or an order. None where the library is to say what is wrong with it, or where it need not be read."""
+    if not is_needed and not _HINTS.search(text):
+        return None
     try:
         read = json.loads(text.decode(), parse_int=_whole)
     except (ValueError, RecursionError):
@@ -154,30 +226,9 @@ def _whole(digits: str) -> float:
     return -0.0 if digits == "-0" else int(digits)
 
 
-def takes_others(policy: dict[str, Any]) -> bool:
-    """Whether `algs` has a name that is not of a shared key."""
-    algs = policy.get("algs")
-    return isinstance(algs, list) and any(alg not in _SHARED for alg in algs)
-
-
-def _jwks(holder: dict[str, Any]) -> list[dict[str, Any]]:
-    """The keys of the set in the member `keys`, where it is one."""
-    keys = holder.get("keys")
-    found = keys.get("keys") if isinstance(keys, dict) else None
-    return [jwk if isinstance(jwk, dict) else {} for jwk in found] if isinstance(found, list) else []
-
-
-def public_keys(holder: dict[str, Any], member: str, place: str) -> list[PublicKey]:
-    """The public keys of the set in the member `keys`."""
-    found = []
-    for number, jwk in enumerate(_jwks(holder)):
-        try:
-            key = public_key(jwk)
-        except BadKey as fault:
-            raise Unreadable(f"unreadable 1 wrong {member}", f"at {place}/keys/keys/{number}: {fault}") from None
-        if key is not None:
-            found.append(key)
-    return found
+def has_other(algs: object) -> bool:
+    """Whether a list of algorithms has one that is not of shared keys."""
+    return isinstance(algs, list) and not all(map(is_shared, algs))
 
 
 def _said(answer: object) -> int:

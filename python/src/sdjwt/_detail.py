@@ -387,10 +387,18 @@ def _key_form(key: Any, place: str) -> str:
     return ""
 
 
+def _any_keys(value: Any, place: str, file: dict[str, Any]) -> str:
+    """A key set, whatever its keys are."""
+    if isinstance(value, dict) and isinstance(value.get("keys"), list):
+        return ""
+    has = f"it is {_is(value)}" if not isinstance(value, dict) else 'it has no list "keys"'
+    return _at(place, has + ', and has to be an object with a list "keys": write {"keys": [..]}')
+
+
 def _key_set(value: Any, place: str, file: dict[str, Any]) -> str:
-    if not isinstance(value, dict) or not isinstance(value.get("keys"), list):
-        has = f"it is {_is(value)}" if not isinstance(value, dict) else 'it has no list "keys"'
-        return _at(place, has + ', and has to be an object with a list "keys": write {"keys": [..]}')
+    none = _any_keys(value, place, file)
+    if none:
+        return none
     keys = value["keys"]
     wrong = _first(_key_form(key, f"{place}/keys/{i}") for i, key in enumerate(keys))
     codes = [] if wrong else [(f"{place}/keys/{i}/k", key["k"]) for i, key in enumerate(keys) if key["kty"] == "oct"]
@@ -399,8 +407,13 @@ def _key_set(value: Any, place: str, file: dict[str, Any]) -> str:
 
 
 def key_set_fault(value: Any) -> str:
-    """What is wrong with the key set in `keys`, and nothing where it is one."""
-    return _key_set(value, "/keys", {})
+    """Why what stands in `keys` is no key set, and nothing where it is one, whatever its keys are."""
+    return _any_keys(value, "/keys", {})
+
+
+def text_fault(value: Any, place: str) -> str:
+    """Why a value is no text, and nothing where it is one."""
+    return _text(value, place, {})
 
 
 def _version(value: Any, place: str, file: dict[str, Any]) -> str:
@@ -460,7 +473,7 @@ _FORMS: dict[str, tuple[_Member, ...]] = {
     "present order": (
         _Member("keys", _key_set, True), _Member("want", _POINTERS), _Member("never", _POINTERS), _Member("binding", _just(_BINDINGS["present order"]))),
     ASKED: (
-        _Member("keys", _key_set), _Member("algs", _list_of(_text), True), _Member("want", _POINTERS), _Member("never", _POINTERS),
+        _Member("keys", _any_keys), _Member("algs", _list_of(_text), True), _Member("want", _POINTERS), _Member("never", _POINTERS),
         _Member("binding", _just(_BINDINGS[ASKED], ("alg", "kid")))),
     "query": (
         _Member("keys", _key_set, True), _Member("want", _POINTERS),

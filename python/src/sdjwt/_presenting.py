@@ -1,4 +1,4 @@
-"""Presenting under the public key of an issuer, with a signature of the holder that is made here or by a function.
+"""Presenting under the keys of issuers, public ones and shared ones, with a signature of the holder made here or by a function.
 
 No rule of SD-JWT stands here. The library asks whether the issuer's signature is good, says what is to be signed, and makes the
 presentation of the signature; what is decided is only under which key the one is checked, and by which algorithm the other is made.
@@ -9,10 +9,10 @@ import json
 from typing import Any
 
 from sdjwt import _library
-from sdjwt._asking import CheckFunction, Checking, need_function, public_keys, read_object, takes_others
-from sdjwt._detail import key_set_fault
+from sdjwt._asking import CheckFunction, Checking, has_other, need_function, read_object
+from sdjwt._detail import key_set_fault, text_fault
 from sdjwt._errors import Unreadable
-from sdjwt._given import signature_bytes
+from sdjwt._key_sets import need_a_key, read_set, warn_of_private
 from sdjwt._signing import Signer, signer_of
 
 
@@ -25,7 +25,10 @@ class Presenting:
         self._checking, self._signer = Checking(check), signer
         if "keys" in order or check is None:
             _need_keys(order)
-            self._checking.issuers = public_keys(order, "keys", "")
+            issuers = read_set(order, "keys", "", "present order")
+            if check is None:
+                need_a_key(issuers, order.get("algs"), "keys")
+            self._checking.issuers = issuers.keys
         rest = {name: value for name, value in order.items() if name != "keys"}
         if "binding" in order:
             if signer is None:
@@ -43,7 +46,7 @@ class Presenting:
             status, answer = _library.call("present_ask", self.file, token, now, said)
         if status != _library.TO_SIGN or self._signer is None:
             return status, answer
-        signature = signature_bytes(self._signer.sign(answer))
+        signature = self._signer.signature(answer)
         status, answer = _library.call("present_sign", self.file, token, now, said, signature)
         if status == _library.USAGE:
             raise ValueError("sdjwt: what sign answered has no bytes, and is no signature")
@@ -56,9 +59,11 @@ def presenting_of(text: bytes, check: CheckFunction | None, sign: object, alg: o
     is_asked = check is not None or sign is not None
     if alg is not None and sign is None:
         raise ValueError("sdjwt: alg is given without sign; a shared key signs by HS256")
-    # in JSON a name can be written otherwise only by escapes
-    order = read_object(text) if is_asked or b"algs" in text or b"\\u" in text else None
-    if order is None or not (is_asked or takes_others(order)):
+    order = read_object(text, is_asked)
+    if order is None:
+        return None
+    if not is_asked and not has_other(order.get("algs")):
+        warn_of_private(order, "", "present order")
         return None
     return Presenting(order, check, None if sign is None else _signer(order, sign, alg))
 
@@ -66,11 +71,14 @@ def presenting_of(text: bytes, check: CheckFunction | None, sign: object, alg: o
 def _signer(order: dict[str, Any], sign: object, alg: object) -> Signer:
     """Who signs. The algorithm may be named by the order too."""
     binding = order.get("binding")
-    named = binding.get("alg") if isinstance(binding, dict) else None
+    named = None
+    if isinstance(binding, dict) and "alg" in binding:
+        named = binding["alg"]
+        wrong = text_fault(named, "/binding/alg")
+        if wrong:
+            raise Unreadable("unreadable 1 wrong binding", wrong)
     if alg is not None and named is not None and alg != named:
         raise ValueError("sdjwt: alg is another than the alg in the binding of the order")
-    if not isinstance(named, str):
-        named = None
     signer = signer_of(sign, named if alg is None else alg)
     if signer.alg in (b"", b"none"):
         raise ValueError("sdjwt: alg is no name of an algorithm by which a token is signed")
@@ -80,7 +88,7 @@ def _signer(order: dict[str, Any], sign: object, alg: object) -> Signer:
 def _need_keys(order: dict[str, Any]) -> None:
     """The order has to have a key set, which the library does not see."""
     if "keys" not in order:
-        raise Unreadable("unreadable 1 missing keys", "the public keys of the issuers have to be there, or a function check")
+        raise Unreadable("unreadable 1 missing keys", "the keys of the issuers have to be there, or a function check")
     wrong = key_set_fault(order["keys"])
     if wrong:
         raise Unreadable("unreadable 1 wrong keys", wrong)

@@ -12,7 +12,7 @@ from typing import TYPE_CHECKING, NamedTuple, Union
 from sdjwt import _library
 from sdjwt._errors import NoCryptography
 from sdjwt._given import alg_bytes, signature_bytes
-from sdjwt._public import BadKey
+from sdjwt._keys import BadKey
 
 if TYPE_CHECKING:
     from cryptography.hazmat.primitives.asymmetric.ec import EllipticCurvePrivateKey
@@ -23,6 +23,9 @@ if TYPE_CHECKING:
 
 # The signature of a text.
 SignFunction = Callable[[bytes], Union[bytes, bytearray, memoryview]]
+# How many bytes a signature has, by the algorithms of which each has as many (RFC 7518 section 3.4, RFC 8037 section 3.1). By
+# EdDSA it is one of Ed25519 or of Ed448.
+_LENGTHS = {"ES256": (64,), "ES384": (96,), "ES512": (132,), "Ed25519": (64,), "Ed448": (114,), "EdDSA": (64, 114)}
 
 
 class Signer(NamedTuple):
@@ -38,11 +41,20 @@ class Signer(NamedTuple):
             raise ValueError("sdjwt: alg is no name of an algorithm by which a token is signed")
         if status != _library.DONE:
             return status, said
-        signature = signature_bytes(self.sign(said))
+        signature = self.signature(said)
         status, said = _library.call("issue_sign", order, self.alg, seed, signature)
         if status == _library.USAGE:
             raise ValueError("sdjwt: what sign answered has no bytes, and is no signature")
         return status, said
+
+    def signature(self, text: bytes) -> bytes:
+        """The signature of a text, of a length that one by this algorithm has."""
+        made, name = signature_bytes(self.sign(text)), self.alg.decode()
+        lengths = _LENGTHS.get(name, (len(made),))
+        if len(made) not in lengths:
+            wanted = " or ".join(map(str, lengths)) + (", r and s, and no DER" if name in ("ES256", "ES384", "ES512") else "")
+            raise ValueError(f"sdjwt: what sign answered has {len(made)} bytes, and a signature by {name} has {wanted}")
+        return made
 
 
 def signer_of(sign: object, alg: object) -> Signer:

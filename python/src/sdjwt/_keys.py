@@ -1,0 +1,165 @@
+"""Keys, as JWKs (RFC 7517), and the check of a signature under one.
+
+A key serves the algorithms of its type and no other: ES256 is for P-256 alone, and HS256 for a key of the type `oct` alone, so
+that nobody can have a public key taken for a shared one (RFC 8725 section 3.1). The mathematics of public keys is that of the
+package cryptography, which is loaded only where one is read; an HMAC is that of Python's standard library.
+"""
+from __future__ import annotations
+
+import base64
+import hmac
+import re
+from collections.abc import Callable, Iterable, Mapping
+from typing import Any, NamedTuple, Optional
+
+from sdjwt._errors import NoCryptography
+
+# Whether a signature over a text is good.
+Check = Callable[[bytes, bytes], bool]
+
+
+class _Mac(NamedTuple):
+    """The hash of an algorithm of shared keys, and how many bytes a key for it has at least (RFC 7518 section 3.2)."""
+
+    hash_name: str
+    key_min: int
+
+
+MACS = {"HS256": _Mac("sha256", 32), "HS384": _Mac("sha384", 48), "HS512": _Mac("sha512", 64)}
+# Of each curve: the algorithm that it serves, and the length of a coordinate (RFC 7518 sections 3.4 and 6.2.1).
+CURVES = {"P-256": ("ES256", 32), "P-384": ("ES384", 48), "P-521": ("ES512", 66)}
+# RFC 8037 section 3.1, and the name that RFC 9864 gives the same
+ED25519 = ("EdDSA", "Ed25519")
+RSA = ("PS256", "PS384", "PS512", "RS256", "RS384", "RS512")
+RSA_BITS_MIN = 2048
+# The algorithms of the public keys that are known here.
+PUBLIC = (*(alg for alg, _ in CURVES.values()), *ED25519, *RSA)
+_LETTERS = re.compile(r"[A-Za-z0-9_-]+")
+
+
+class BadKey(ValueError):
+    """A JWK is malformed, too small or of a type that is not known here. No value of it is told."""
+
+
+class UnusedKey(BadKey):
+    """A JWK says of itself, by its `use`, `key_ops` or `alg`, that it checks none of the signatures that its type is for."""
+
+
+class Key(NamedTuple):
+    """A key: its name, and its check for each algorithm that it serves."""
+
+    kid: Optional[str]
+    checks: dict[str, Check]
+
+
+def is_shared(alg: object) -> bool:
+    """Whether this is the name of an algorithm of shared keys, also of one that is not known here."""
+    return isinstance(alg, str) and alg.startswith("HS")
+
+
+def decoded(text: str) -> bytes:
+    """The bytes of a base64url text without padding, that the library wrote."""
+    return base64.urlsafe_b64decode(text + "=" * (-len(text) % 4))
+
+
+def _of_type(jwk: Mapping[str, Any]) -> tuple[str, ...]:
+    """The algorithms of the type of a JWK, and none where it is not known here."""
+    kind, curve = jwk.get("kty"), jwk.get("crv")
+    if kind == "oct":
+        return tuple(MACS)
+    if kind == "EC" and isinstance(curve, str) and curve in CURVES:
+        return (CURVES[curve][0],)
+    if kind == "OKP" and curve == "Ed25519":
+        return ED25519
+    return RSA if kind == "RSA" else ()
+
+
+def _other_use(jwk: Mapping[str, Any]) -> str:
+    """Why a JWK checks no signature by what it says of itself, and nothing where it says no such thing."""
+    operations = jwk.get("key_ops", ["verify"])
+    if jwk.get("use", "sig") != "sig":
+        return "its use is not sig"
+    if not isinstance(operations, list) or "verify" not in operations:
+        return "its key_ops have no verify"
+    return ""
+
+
+def serves(jwk: Mapping[str, Any]) -> tuple[str, ...]:
+    """The algorithms that a JWK serves, by its type, its `alg`, its `use` and its `key_ops` (RFC 7517 section 4)."""
+    return () if _other_use(jwk) else tuple(name for name in _of_type(jwk) if jwk.get("alg", name) == name)
+
+
+def key_of(jwk: object) -> Key:
+    """The key of a JWK. It serves at least one algorithm."""
+    if not isinstance(jwk, dict):
+        raise BadKey("it is no object")
+    if not isinstance(jwk.get("kty"), str):
+        raise BadKey('"kty" is missing or no text')
+    if not _of_type(jwk):
+        raise BadKey(_unknown_type(jwk["kty"]))
+    names = serves(jwk)
+    if not names:
+        raise UnusedKey(_other_use(jwk) or f"its alg is not one of its type, which serves {', '.join(_of_type(jwk))}")
+    kid = jwk.get("kid")
+    if kid is not None and not isinstance(kid, str):
+        raise BadKey("kid is no text")
+    return Key(kid, _mac_checks(jwk, names) if jwk["kty"] == "oct" else _public_checks(jwk, names))
+
+
+def _unknown_type(kind: str) -> str:
+    if kind == "EC":
+        return f"its crv is none of {', '.join(CURVES)}"
+    return "its crv is not Ed25519" if kind == "OKP" else "its kty is none of oct, EC, OKP, RSA; capitals count"
+
+
+def _mac_checks(jwk: Mapping[str, Any], names: tuple[str, ...]) -> dict[str, Check]:
+    """HMAC, by the algorithms for which the key is long enough."""
+    secret = _member(jwk, "k")
+    checks = {name: _mac_check(secret, MACS[name].hash_name) for name in names if len(secret) >= MACS[name].key_min}
+    if not checks:
+        raise BadKey(f"k has {len(secret)} bytes, of the at least {MACS[names[0]].key_min} that {names[0]} wants")
+    return checks
+
+
+def _mac_check(secret: bytes, hash_name: str) -> Check:
+    return lambda signature, text: hmac.compare_digest(hmac.digest(secret, text, hash_name), signature)
+
+
+def _public_checks(jwk: Mapping[str, Any], names: tuple[str, ...]) -> dict[str, Check]:
+    try:
+        from sdjwt import _signatures
+    except ImportError as missing:
+        raise NoCryptography() from missing
+    if jwk["kty"] == "EC":
+        size = CURVES[jwk["crv"]][1]
+        return {names[0]: _signatures.ecdsa(jwk["crv"], _member(jwk, "x", size), _member(jwk, "y", size))}
+    if jwk["kty"] == "OKP":
+        return dict.fromkeys(names, _signatures.ed25519(_member(jwk, "x", 32)))
+    n, e = _number(jwk, "n"), _number(jwk, "e")
+    if n.bit_length() < RSA_BITS_MIN:
+        raise BadKey(f"n has fewer than {RSA_BITS_MIN} bits")
+    return _signatures.rsa_checks(n, e, names)
+
+
+def _member(jwk: Mapping[str, Any], name: str, size: int | None = None) -> bytes:
+    text = jwk.get(name)
+    if not isinstance(text, str) or _LETTERS.fullmatch(text) is None or len(text) % 4 == 1:
+        raise BadKey(f"{name} is no base64url text without padding")
+    content = decoded(text)
+    if base64.urlsafe_b64encode(content).rstrip(b"=").decode() != text:
+        raise BadKey(f"{name} has bits behind its last byte")
+    if size is not None and len(content) != size:
+        raise BadKey(f"{name} has not just {size} bytes")
+    return content
+
+
+def _number(jwk: Mapping[str, Any], name: str) -> int:
+    return int.from_bytes(_member(jwk, name), "big")
+
+
+def find(keys: Iterable[Key], alg: str, kid: str | None) -> Check | None:
+    """The check under the first key that serves the algorithm, and has this name where one is asked for."""
+    for key in keys:
+        if alg in key.checks and (kid is None or kid == key.kid):
+            return key.checks[alg]
+    return None
