@@ -10,6 +10,8 @@
 #
 # It needs a Rattle kit, whose rt is on the path, and a C compiler with binutils. CC and CFLAGS are taken as they are.
 set -eu
+# All can read what is copied, whatever the mask is.
+umask 022
 
 refuse() {
     echo "build.sh: $1" >&2
