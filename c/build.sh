@@ -1,8 +1,8 @@
 #!/bin/sh
 # Builds sdjwt for C into the folder out/ beside this file: lib/libsdjwt.a, lib/libsdjwt.so, lib/pkgconfig/sdjwt.pc,
 # include/sdjwt.h, and a record of what they were made of and whether they are proved. What an earlier run left there is
-# removed first. The crate crates/sdjwt_c is proved, with what it stands on, where that was not done before: from nothing
-# this takes 30 to 40 minutes on four cores.
+# removed first. The crate crates/sdjwt_c is proved, with what it stands on, where that was not done before: from
+# nothing this takes 30 to 40 minutes on four cores.
 #
 #   sh c/build.sh                  builds
 #   sh c/build.sh --prefix DIR     builds, and copies it below DIR
@@ -10,6 +10,8 @@
 #
 # It needs a Rattle kit, whose rt is on the path, and a C compiler with binutils. CC and CFLAGS are taken as they are.
 set -eu
+# All can read what is copied, whatever the mask is.
+umask 022
 
 refuse() {
     echo "build.sh: $1" >&2

@@ -233,7 +233,7 @@ def check_links():
         text = re.sub(r"^```.*?^```", "", page.read_text(encoding="utf-8"), flags=re.M | re.S)
         for link, _, anchor in re.findall(r"\]\(([^)#\s]*)(#([^)\s]+))?\)", text):
             target = page.parent / link if link else page
-            if not re.match(r"[a-z]+:", link) and page.parent.name != "release":
+            if not re.match(r"[a-z]+:", link):
                 if not target.exists() or anchor and anchor not in anchors(target):
                     yield f"{page.relative_to(TOP)} has a link that leads nowhere: {link}{'#' * bool(anchor)}{anchor}"
                 elif page.parent.name == "docs" and link.startswith("../") and link not in RELEASED:

@@ -143,7 +143,21 @@ sums_by_readme() {
         rm -r "$made/changed" && echo "$line"
 }
 for page in "$top/README.md" "$made"/archive/*/README.md; do
-    holds "the sums by ${page##*/}" sums_by_readme "$page"
+    holds 'the sums by a README.md' sums_by_readme "$page"
+done
+# The wheel with its extra, by a README. What the extra needs is not installed with it.
+whole=$(sed -n '1s/^sdjwt //p' "$out/PROVENANCE")
+with_keys() {
+    wheel=$(sed -n 's/^    pip install \(.*\[keys\].*\)$/\1/p' "$1" | sed "s/sdjwt-$version-/sdjwt-$whole-/")
+    [ -n "$wheel" ] && (cd "$out" && sh -c "python3 -m pip install --no-index --no-deps --disable-pip-version-check \
+        --root-user-action ignore --target '$made/keys' $wheel") && rm -r "$made/keys"
+}
+for page in "$top/python/README.md" "$made"/archive/*/README.md; do
+    if python3 -m pip --version >/dev/null 2>&1; then
+        holds 'the wheel with its extra by a README.md' with_keys "$page"
+    else
+        skip 'the wheel with its extra (no pip)'
+    fi
 done
 judged() {
     lintian --allow-root --profile debian --fail-on error "$out"/*.deb >"$made/lintian" || {
@@ -277,7 +291,6 @@ if [ "$bare_made" = yes ]; then
     python_package wheel /srv/venv/bin/python
 
     # The first lines of the repository's README.md: three for the archive, one for the package and one for the wheel.
-    whole=$(sed -n '1s/^sdjwt //p' "$out/PROVENANCE")
     awk '/^## / { on = $0 == "## Install"; next } on && sub(/^    (sudo )?/, "")' "$top/README.md" |
         sed "s/$version/$whole/g" >"$made/lines"
     [ "$(wc -l <"$made/lines")" -eq 5 ] || failed 'README.md has not five lines under "Install"'

@@ -50,9 +50,9 @@ counts_as_proved() {
         marked "$top/c/out/lib/libsdjwt.a" "$made/built/libsdjwt_c.a" || return 1
     cat >"$made/rt/rt" <<END
 #!/bin/sh
-# FAILS is a command and a crate that fails. What CHANGES names is run beside each command.
+# FAILS is a command and a crate that fails. CHANGES is a command that is run with each crate.
 crate=\$(basename "\$(pwd)")
-\${CHANGES-}
+case \$1 in lib | run) \${CHANGES-} ;; esac
 [ "\$1 \$crate" != "\${FAILS-}" ] || exit 1
 case "\$1 \$crate" in
     'run sdjwt' | 'run sdjwt_tools') cp "$made/built/\$crate" out/ ;;
