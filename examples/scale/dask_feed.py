@@ -10,12 +10,14 @@ policy and tokens under the same names, as in a folder that they share.
 The answer on a part is written under a name that no other has and is then renamed, so it is there whole or not at all.
 Where a worker dies Dask gives what it had to others: a part may then be judged twice, and has one answer all the same.
 A feed judges at the moment at which it starts, so each part has a moment of its own. With --now all have the same one:
-then the Python package, which each worker has to have, judges in the place of the program.
+then the Python package, which each worker has to have, judges instead of the program. It gives the verdicts of a feed,
+which knows shared keys alone, although the package can check signatures of public keys as well.
 """
 import argparse
 import json
 import os
 import shutil
+import signal
 import subprocess
 import sys
 import tempfile
@@ -29,6 +31,7 @@ from dask.distributed import Client
 
 MOST = 1 << 30
 RETRIES = 3
+SHARED = ("HS256", "HS384", "HS512")
 
 
 def words():
@@ -42,6 +45,8 @@ def words():
     given = parser.parse_args()
     if given.block < 1:
         parser.error("--block is to be 1 or more")
+    if given.now is not None and not 0 <= given.now < 1 << 64:
+        parser.error("--now is to be from 0 to 2^64 - 1")
     return given
 
 
@@ -75,10 +80,22 @@ def by_program(lines, answer, policy, program):
     return int(last.split()[1])
 
 
+def of_shared_keys(policy):
+    """A policy file without the algorithms of public keys in `algs`: a feed takes no token that is signed by one."""
+    try:
+        # -0 is to stay what the library refuses
+        asked = json.loads(policy.decode(), parse_int=lambda digits: -0.0 if digits == "-0" else int(digits))
+    except (ValueError, RecursionError):
+        return policy
+    algs = asked.get("algs") if isinstance(asked, dict) else None
+    shared = [alg for alg in algs if not isinstance(alg, str) or alg in SHARED] if isinstance(algs, list) else algs
+    return policy if shared == algs else json.dumps({**asked, "algs": shared}).encode()
+
+
 def by_package(lines, answer, policy, now):
     """Puts the verdicts of the Python package at a moment into a file, as a feed prints them, and says their number."""
     import sdjwt
-    asked = sdjwt.Policy(policy.read_bytes())
+    asked = sdjwt.Policy(of_shared_keys(policy.read_bytes()))
     tokens = lines.removesuffix(b"\n").split(b"\n")
     for token in tokens:
         try:
@@ -117,15 +134,14 @@ def put_together(tokens, folder, answers, lines):
     os.replace(whole, f"{tokens}.verdicts")
 
 
-def feed(client, given, folders):
+def feed(client, given, files, folders):
     """Judges all parts, puts their answers together, and says how many parts and lines there were."""
-    files = [tokens.resolve(strict=True) for tokens in given.tokens]
     parts = [parts_of(tokens, folder, given.block) for tokens, folder in zip(files, folders)]
     every = [part for own in parts for part in own]
     counts = []
     if every:
         tasks = bag.from_sequence(every, partition_size=1)
-        judged = tasks.map(judge, policy=given.policy.resolve(strict=True), program=given.program, now=given.now)
+        judged = tasks.map(judge, policy=given.policy, program=given.program, now=given.now)
         counts = client.compute(judged, retries=RETRIES).result()
     left = iter(counts)
     for tokens, folder, own in zip(files, folders, parts):
@@ -136,18 +152,29 @@ def feed(client, given, folders):
 
 def folder_for(tokens, stack):
     """A folder beside a file for the answers on its parts, which is removed behind the run with all that is in it."""
-    folder = tempfile.mkdtemp(prefix=f"{tokens.name}.parts.", dir=tokens.resolve().parent)
+    folder = tempfile.mkdtemp(prefix=f"{tokens.name}.parts.", dir=tokens.parent)
     stack.callback(shutil.rmtree, folder, ignore_errors=True)
     return Path(folder)
 
 
+def file_of(name):
+    """The whole name of a file that can be read."""
+    if not name.is_file() or not os.access(name, os.R_OK):
+        sys.exit(f"dask_feed.py: {name} is no file that can be read")
+    return name.resolve()
+
+
 def main():
     given = words()
+    files = [file_of(tokens) for tokens in given.tokens]
+    given.policy = file_of(given.policy)
+    # so that what is told to end takes its folders away
+    signal.signal(signal.SIGTERM, lambda *_: sys.exit("dask_feed.py: ended by SIGTERM"))
     with ExitStack() as stack:
-        folders = [folder_for(tokens, stack) for tokens in given.tokens]
+        folders = [folder_for(tokens, stack) for tokens in files]
         client = stack.enter_context(Client(given.scheduler))
         began = time.monotonic()
-        parts, lines = feed(client, given, folders)
+        parts, lines = feed(client, given, files, folders)
         print(f"dask_feed.py: {lines} lines in {parts} parts, {time.monotonic() - began:.2f} s")
     return 0
 

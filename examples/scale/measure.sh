@@ -1,11 +1,15 @@
 #!/bin/sh
 # How many tokens a second: one feed, feeds on 1, 2 and 4 processes by cores.sh, and a run of sdjwt for each token.
 #     sh examples/scale/measure.sh [TOKENS] [ROUNDS]
-# Each figure is the median of some rounds by the clock. sdjwt and sdjwt_tools are those on the path, or in SDJWT and
-# SDJWT_TOOLS.
+# Each figure is the median of some rounds by the clock. There are at least 1,000 tokens, and at least one round. sdjwt
+# and sdjwt_tools are those on the path, or in SDJWT and SDJWT_TOOLS. A run that fails ends this, with its status.
 set -eu
 tokens=${1:-100000}
 rounds=${2:-5}
+{ [ "$tokens" -ge 1000 ] && [ "$rounds" -ge 1 ]; } 2>/dev/null || {
+    echo "measure.sh: of $tokens tokens and $rounds rounds one is too few, or no number" >&2
+    exit 2
+}
 here=$(cd "$(dirname "$0")" && pwd)
 made=$(mktemp -d)
 trap 'rm -rf "$made"' EXIT
@@ -22,18 +26,24 @@ rate() {
     count=$2
     shift 2
     round=0
+    : >rounds
     while [ "$round" -lt "$rounds" ]; do
         start=$(date +%s.%N)
-        "$@" >out
-        echo "$count $start $(date +%s.%N)"
+        "$@" >out || failed "$name" $?
+        echo "$count $start $(date +%s.%N)" >>rounds
         round=$((round + 1))
-    done | awk '{ print $1 / ($3 - $2) }' | sort -n | awk -v name="$name" '{ r[NR] = $1 }
+    done
+    awk '{ print $1 / ($3 - $2) }' rounds | sort -n | awk -v name="$name" '{ r[NR] = $1 }
         END { printf "%s: %.0f tokens a second, from %.0f to %.0f\n", name, r[int((NR + 1) / 2)], r[1], r[NR] }'
+}
+failed() {
+    echo "measure.sh: $1: status $2" >&2
+    exit "$2"
 }
 
 one() { "$SDJWT_TOOLS" feed policy.json 1073741824 <tokens; }
 cores() { sh "$here/cores.sh" policy.json "$1" <tokens; }
-each() { for file in token.*; do "$SDJWT" verify policy.json "$file"; done; }
+each() { for file in token.*; do "$SDJWT" verify policy.json "$file" || return; done; }
 
 rate 'one feed' "$tokens" one
 for processes in 1 2 4; do

@@ -9,6 +9,7 @@ import base64
 import hashlib
 import hmac
 import json
+import signal
 import sys
 
 KEY = bytes([1]) * 32
@@ -33,8 +34,10 @@ def token(number):
 
 
 def main():
-    if len(sys.argv) != 2:
+    if len(sys.argv) != 2 or not sys.argv[1].isdecimal():
         sys.exit(__doc__)
+    # whoever reads no more ends this without a word
+    signal.signal(signal.SIGPIPE, signal.SIG_DFL)
     for number in range(int(sys.argv[1])):
         sys.stdout.write(token(number))
 
