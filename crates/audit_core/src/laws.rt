@@ -12,18 +12,19 @@ ghost use Rattle.issuer_core.specs.Order.{Order};
 ghost use Rattle.audit_core.specs.AuditLaws.{HasOneVerdict, IssuedPasses, KeyIssuedPasses};
 ghost use Rattle.audit_core.specs.AuditRun.{AuditAnswers, AuditEnds, IsAudit};
 
-use hmac_sign::{Checker, Signer};
+use hmac_sign::Signatures;
 
-/// A text passes an audit, or one thing refuses it.
-pub fn one_audit<K: Checker>()
-    ensures { (checker : K) (o : Order) (alg : Text) (content : Text)
-        → HasOneVerdict o alg (K.good checker) content }
+/// A text passes an audit, or one thing refuses it, whatever signatures are.
+pub fn one_audit<S: Signatures>()
+    ensures { (signer : S) (o : Order) (alg : Text) (content : Text)
+        → HasOneVerdict o alg (S.good signer) content }
 {}
 
-/// What is issued for an order that nothing of 51 to 59 refuses passes the audit of whoever knows
-/// what its signature means and has no seed, where its compact text is read as a token.
-pub fn audited<S: Signer>()
-    ensures by_signer { (signer : S) → IssuedPasses (S.alg_name_of signer) (S.good signer) }
+/// What is issued for an order that nothing of 51 to 59 refuses, with whatever signatures and by an
+/// algorithm of any name, passes the audit of whoever knows which of them are good and has no seed,
+/// where its compact text is read as a token.
+pub fn audited<S: Signatures>()
+    ensures by_signer { (signer : S) (alg : Text) → IssuedPasses alg (S.good signer) }
     ensures by_key { (key : AlgKey) → KeyIssuedPasses key }
 {}
 

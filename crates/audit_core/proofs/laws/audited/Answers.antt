@@ -4,6 +4,6 @@ use Rattle.audit_core.proofs.laws.audited.Goals as goal
 
 pub returns : goal.returns
 returns g c = record {
-  by_signer = λ signer. issued_passes_holds (g.S.Signer.alg_name_of signer) (g.S.Signatures.good signer);
+  by_signer = λ signer alg. issued_passes_holds alg (g.S.Signatures.good signer);
   by_key = λ key. key_issued_passes_holds key;
 }
