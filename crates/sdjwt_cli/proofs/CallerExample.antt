@@ -15,7 +15,6 @@ use Rattle.refusals.specs.declared.fault.Place.{Place}
 use Rattle.compact_form.specs.declared.parts.Parts.{Parts}
 use Rattle.hmac_sign.specs.Agreement.{IsOfBytes}
 use Rattle.jws_part.specs.Header.{header_members}
-use Rattle.key_binding.specs.Binding.{binding_header}
 use Rattle.key_binding.specs.Caller.{IsAlgUntaken}
 use Rattle.key_binding.specs.Judged.{BindingRules}
 use Rattle.key_binding.specs.declared.caller.SignatureAnswer.{SignatureAnswer}
@@ -32,7 +31,7 @@ use Rattle.selection_core.specs.Never.{never_rule}
 use Rattle.sdjwt_cli.specs.AnySigner.{AnySigner, any_signer, IsLegible, BindingFits, SignsShort, RulesSuit, DemandsSuit}
 use Rattle.sdjwt_cli.specs.PresentedValues.{IsIssuedByAnyone, AreMeant, IsShownByAnyone, IsJudgedWith, said_good}
 use Rattle.sdjwt_cli.specs.Suits.{claims_for}
-use Rattle.sdjwt_cli.proofs.BindingRoom.{short_fits}
+use Rattle.sdjwt_cli.proofs.BindingRoom.{short_name, short_fits}
 use Rattle.sdjwt_cli.proofs.HeldIssued.{by_anyone}
 use Rattle.sdjwt_cli.proofs.IssuedValues.{parts, parts_short, issued}
 use Rattle.sdjwt_cli.proofs.PresentedToCaller.{presented_to_caller}
@@ -47,13 +46,13 @@ by_issuer = codes "by the issuer"
 abbrev by_holder : List ℕ
 by_holder = codes "by the holder"
 
-abbrev es256 : Text
+abbrev pub es256 : Text
 es256 = codes "ES256"
 
-abbrev issuer : AnySigner
+abbrev pub issuer : AnySigner
 issuer = any_signer es256 (λ head body signature. signature ≡ by_issuer)
 
-abbrev holder : AnySigner
+abbrev pub holder : AnySigner
 holder = any_signer es256 (λ head body signature. signature ≡ by_holder)
 
 abbrev by : Meanings
@@ -76,7 +75,7 @@ taken (inr none) = none (inl refl)
 abbrev head : Text
 head = json_text (object (header_members (header_of es256 order)))
 
-abbrev sent : Parts
+abbrev pub sent : Parts
 sent = record {
   signed = record { protected = b64 head; payload = parts.signed.payload; signature = b64 by_issuer };
   disclosures = parts.disclosures;
@@ -87,7 +86,7 @@ head_short : length head ≤ 1000
 unfolding escape_byte
 head_short = omega arith
 
-sent_issued : IsIssued (maker_of seed) order es256 issuer.good sent
+pub sent_issued : IsIssued (maker_of seed) order es256 issuer.good sent
 sent_issued =
     let i = issued.issued in
     record {
@@ -115,12 +114,12 @@ sent_short =
       length-append (hashed parts) [],
     )
 
-anyone : IsIssuedByAnyone seed order issuer sent
+pub anyone : IsIssuedByAnyone seed order issuer sent
 anyone =
     let same = by_anyone seed order _ parts issued in
     record { issued = sent_issued; passes = same.passes; short = sent_short; ordered = same.ordered; texts = same.texts; kid = same.kid; typ = same.typ }
 
-legible : IsLegible es256 sent
+pub legible : IsLegible es256 sent
 legible = let word = IsWord-b64 by_issuer (omega arith) in record { name = IsUtf8-are_ascii es256 refl; some = word.some }
 
 -- ---- what suits
@@ -129,11 +128,11 @@ abbrev bind : BindingAsked
 bind = record { kid = Some (codes "h"); aud = codes "v"; nonce = codes "7" }
 
 -- as in the worked present order, of a caller that said that the issuer's signature is good
-abbrev asked : Asked
+abbrev pub asked : Asked
 asked = record { rules = caller_rules (es256 ∷ []) (Some SignatureAnswer.Good); want = said.ask.want; binding = Some bind }
 
 -- the worked policy, but for its algorithms
-abbrev policy : Policy
+abbrev pub policy : Policy
 policy = record (policy_with (Some asked_binding)) { algs = es256 ∷ [] }
 
 claims : (c : Condition) (place : Place) → ClaimFails (claims_for order asked.want) (caller_demands policy (es256 ∷ []) said_good) 1300 c place → ⊥
@@ -155,7 +154,7 @@ at_work = record {
   not_early = omega arith;
 }
 
-suits_caller : DemandsSuit never_rule said.never order issuer asked holder (caller_demands policy (es256 ∷ []) said_good) 1000 1300
+pub suits_caller : DemandsSuit never_rule said.never order issuer asked holder (caller_demands policy (es256 ∷ []) said_good) 1000 1300
 suits_caller = record {
   holder_takes = record { trusts = (taken, refl, issuer_bytes); typ = λ name none. cc none };
   verifier_takes = record { trusts = (taken, refl, issuer_bytes); typ = λ name typ. typ };
@@ -173,13 +172,9 @@ meant = record { issued = λ head body signature is. is; bound = λ head body si
 
 -- key binding tokens of this holder fit
 
-binding_head_short : length (json_text (object (header_members (binding_header es256)))) ≤ 300
-unfolding escape_byte
-binding_head_short = omega arith
-
 signs : SignsShort holder
 signs = record {
-  header = binding_head_short;
+  header = short_name es256 (omega arith);
   signature = λ head body signature is. let long = ap length is in (omega (arith, long), omega (arith, long));
 }
 

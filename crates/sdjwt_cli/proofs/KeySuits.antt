@@ -1,11 +1,9 @@
 -- Where the keys are held: what suits keys and a policy suits whoever signs with them.
 use Rattle.std.proofs.Common.{◌≡◌, inl, inr, ℕ, ◌<◌, ◌≤◌, ◌^◌, List, length, map, Option, None, Some, codes, refl, sym, ap, subst, ◌∙◌, arith}
 use Rattle.std.specs.Prelude.{option_and_then, option_map}
-use Rattle.json.specs.Print.{escape_byte}
 use Rattle.b64url_text.proofs.Codes.{IsWord-b64}
-use Rattle.claim_tree.specs.JsonText.{json_text}
 use Rattle.sd_outside.specs.Lists.{In}
-use Rattle.claim_tree.specs.Tree.{Text, Tree, object}
+use Rattle.claim_tree.specs.Tree.{Text, Tree}
 use Rattle.compact_form.specs.declared.parts.Parts.{Parts}
 use Rattle.hmac_sign.specs.Algs.{alg_text, algs}
 use Rattle.hmac_sign.specs.CodeLengths.{code_length}
@@ -15,8 +13,6 @@ use Rattle.hmac_sign.specs.declared.alg.Alg.{Alg}
 use Rattle.hmac_sign.specs.declared.key_set.NamedKey.{NamedKey}
 use Rattle.hmac_sign.proofs.AlgNames.{of_its_text, text_utf8}
 use Rattle.hmac_sign.proofs.Macs.{length-mac}
-use Rattle.jws_part.specs.Header.{header_members}
-use Rattle.key_binding.specs.Binding.{binding_header}
 use Rattle.key_binding.specs.Judged.{holder_kid, BindingRules, binding_rules}
 use Rattle.key_binding.specs.declared.policy.BindingPolicy.{BindingPolicy}
 use Rattle.selection_core.specs.Consent.{RuleAnswers}
@@ -30,7 +26,7 @@ use Rattle.holder_core.specs.declared.ask.BindingAsk.{BindingAsk}
 use Rattle.sdjwt_cli.specs.AnySigner.{key_signer, TakesIssued, IsLegible, BindingFits, IsShortAsk, SignsShort, RulesSuit, DemandsSuit}
 use Rattle.sdjwt_cli.specs.PresentedValues.{IsIssuedByAnyone, AreShort}
 use Rattle.sdjwt_cli.specs.Suits.{Suits}
-use Rattle.sdjwt_cli.proofs.BindingRoom.{short_fits}
+use Rattle.sdjwt_cli.proofs.BindingRoom.{short_name, short_fits}
 use Rattle.sdjwt_cli.proofs.HeldIssued.{IsTokenOf, token_of}
 
 is_known : (alg : Alg) → In (alg_text alg) (map alg_text algs)
@@ -54,13 +50,9 @@ key_legible seed o key parts issued =
 pub key_token_of : (seed : List ℕ) (o : Order) (key : AlgKey) (parts : Parts) → IsIssuedByAnyone seed o (key_signer key) parts → IsTokenOf seed o (key_signer key) parts
 key_token_of seed o key parts issued = token_of seed o (key_signer key) parts issued (key_legible seed o key parts issued)
 
-header_short : length (json_text (object (header_members (binding_header (codes "HS256"))))) ≤ 300
-unfolding escape_byte
-header_short = omega arith
-
 key_signs : (signing : List ℕ) → SignsShort (key_signer (hs256_key signing))
 key_signs signing = record {
-  header = header_short;
+  header = short_name (codes "HS256") (omega arith);
   signature = λ head body signature good.
       let long = length-mac (hs256_key signing) head body in
       let same = ap length good in

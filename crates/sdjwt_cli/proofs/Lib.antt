@@ -28,8 +28,9 @@ mod SuitsExample
 pub mod SuitedFiles
 pub mod ReadFiles
 mod IssuedValues
-mod ForgeryExample
 mod CallerExample
+mod ForgeryExample
+mod TwoStepsExample
 mod Examples
 mod HiddenPaths
 mod GeneratedWords

@@ -1,4 +1,4 @@
--- The law against forgery: what is accepted with the signed part of an issued token is a closed choice of what was issued.
+-- The law against forgery: what is accepted with the signed part of an issued token, whatever is demanded, is a closed choice of what was issued.
 use Rattle.std.proofs.Common.{◌≡◌, ℕ, zero, suc, List, [], ◌∷◌, ◌++◌, Bool, true, false, ◌⊎◌, inl, inr, ⊎_elim, Some, refl, sym, ap, ◌∙◌, subst}
 use Rattle.std.specs.Prelude.{bytes_eq}
 use Rattle.std.specs.List.{AllZip}
@@ -20,8 +20,8 @@ use Rattle.rebuild_core.specs.Opening.{processed}
 use Rattle.rebuild_core.specs.Reached.{given_digests}
 use Rattle.rebuild_core.specs.Soundness.{IsSound}
 use Rattle.rebuild_core.proofs.Forgery.{IsHonest}
-use Rattle.verifier_core.specs.Verdict.{Gives, HasContent, Opens, IsAccepted, of_token, rules_of}
-use Rattle.verifier_core.specs.declared.policy.Policy.{Policy}
+use Rattle.verifier_core.specs.Asking.{caller_demands}
+use Rattle.verifier_core.specs.Verdict.{Gives, HasContent, Opens, Demands, IsAcceptedFor, demands_of, of_token}
 use Rattle.verifier_core.proofs.ContentFacts.{content_sound}
 use Rattle.issuer_core.specs.Digests.{Maker, marked_claims, issued_digests, decoy_digests}
 use Rattle.issuer_core.specs.GoodOrder.{IsGoodOrder}
@@ -32,7 +32,8 @@ use Rattle.issuer_core.proofs.IssuedForgery.{issued_not_forged}
 use Rattle.issuer_core.proofs.IssuedRead.{IsReadOnlyAs, read_only_as}
 use Rattle.issuer_core.proofs.IssuedSound.{issued_is_sound_holds}
 use Rattle.issuer_core.proofs.Judged.{good_order}
-use Rattle.sdjwt_cli.specs.NoForgery.{NoForgery, NoneCollides, IsChoiceOf, token_digests}
+use Rattle.sdjwt_cli.specs.JudgedIssued.{ShowsIssuedToCaller}
+use Rattle.sdjwt_cli.specs.NoForgery.{ShowsIssued, ShowsIssuedByPolicy, OfIssued, NoneCollides, IsChoiceOf, token_digests}
 
 -- ---- what stands beside each other in two lists
 
@@ -54,7 +55,7 @@ is_in d (e ∷ ds) = go (bytes_eq d e) refl (is_in d ds)
 
 module _ (maker : Maker) (o : Order) (parts : Parts) (p : Tree) (g : List Given) (good : IsGoodOrder o) (issued : IsIssuedFor maker o p g) (only : IsReadOnlyAs o.hash parts p g)
     (text : List ℕ) (token : Token) (is_token : IsToken text token) (same_signed : token.parts.signed ≡ parts.signed)
-    (policy : Policy) (now : ℕ) (marked : Marked) (accepted : IsAccepted text policy now marked) (none : NoneCollides maker o parts.disclosures token.parts.disclosures) where
+    (demands : Demands) (now : ℕ) (marked : Marked) (accepted : IsAcceptedFor text demands now marked) (none : NoneCollides maker o parts.disclosures token.parts.disclosures) where
   abbrev Sent : List Given → Type 0
   Sent h = AllZip (Gives o.hash) token.parts.disclosures h
 
@@ -82,7 +83,7 @@ module _ (maker : Maker) (o : Order) (parts : Parts) (p : Tree) (g : List Given)
   sent = subst (λ (a : HashAlg). AllZip (Gives a) token.parts.disclosures h) same_hash sent_content.disclosures
 
   sound : IsSound p h
-  sound = subst (λ (t : Tree). IsSound t h) same_payload (content_sound token (rules_of policy) opens.0 h sent_content (λ c place fails. accepted.passes c place (of_token token is_token fails)))
+  sound = subst (λ (t : Tree). IsSound t h) same_payload (content_sound token demands.rules opens.0 h sent_content (λ c place fails. accepted.passes c place (of_token token is_token fails)))
 
   -- ---- each disclosure is an issued one
 
@@ -125,7 +126,7 @@ module _ (maker : Maker) (o : Order) (parts : Parts) (p : Tree) (g : List Given)
       let there = In-At token.parts.disclosures d (inside 0 d refl) in
       (text_at i there.0 x d pick.0 there.1 all.0, texts_at order hs ds pick.1 all.1 (λ k e a. inside (suc k) e a))
 
-  choice_of : IsChoiceOf (marked_claims o) parts.disclosures token.parts.disclosures marked
+  choice_of : IsChoiceOf (marked_claims o) parts.disclosures token.parts.disclosures (strip marked)
   choice_of = record {
     numbers = honest.order;
     none_twice = honest.once;
@@ -134,8 +135,20 @@ module _ (maker : Maker) (o : Order) (parts : Parts) (p : Tree) (g : List Given)
     shows = ap strip (opens.3 ∙ ap (λ t. processed t h) same_payload) ∙ honest.shows;
   }
 
-pub no_forgery_holds : (alg : Text) (good : Meaning) → NoForgery alg good
-no_forgery_holds alg good seed o parts none ordered bytes is text token is_token same_signed policy now marked accepted collides =
+pub no_forgery_holds : (alg : Text) (good : Meaning) → OfIssued alg good ShowsIssued
+no_forgery_holds alg good seed o parts none ordered bytes is text token is_token same_signed demands now marked accepted collides =
     let fine = good_order o (λ error h. absurd (none error h)) ordered in
     choice_of (maker_of seed) o parts is.payload is.given fine is.issued (read_only_as seed o alg good is.payload is.given parts fine bytes is.issued is.written)
-    text token is_token same_signed policy now marked accepted collides
+    text token is_token same_signed demands now marked accepted collides
+
+-- so it is under a policy, and where a caller checks the signatures
+
+pub by_policy : (alg : Text) (good : Meaning) → OfIssued alg good ShowsIssuedByPolicy
+by_policy alg good seed o parts none ordered bytes is text token is_token same_signed policy =
+    no_forgery_holds alg good seed o parts none ordered bytes is text token is_token same_signed (demands_of policy)
+
+pub to_caller : (alg : Text) (good : Meaning) → OfIssued alg good ShowsIssuedToCaller
+to_caller alg good seed o parts none ordered bytes is text token is_token same_signed policy algs now answers payload accepted collides =
+    let demands = caller_demands policy algs answers in
+    let choice = no_forgery_holds alg good seed o parts none ordered bytes is text token is_token same_signed demands now accepted.0 accepted.1 collides in
+    subst (λ (t : Tree). IsChoiceOf (marked_claims o) parts.disclosures token.parts.disclosures t) (sym accepted.2) choice

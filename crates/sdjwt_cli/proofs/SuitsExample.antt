@@ -126,7 +126,7 @@ given_name place given front (inl is) never =
 given_name place given front (inr none) never = absurd none
 
 -- of the hidden places the given name leads to a wanted one, and may be shown
-may_be_shown : (place : Path) → In place order.hide → leads_to said.ask.want place ≡ true → MayBeShown said.never place
+pub may_be_shown : (place : Path) → In place order.hide → leads_to said.ask.want place ≡ true → MayBeShown said.never place
 may_be_shown place (inl family) leads = let other : false ≡ true = subst (λ (p : Path). leads_to said.ask.want p ≡ true) family leads in cc other
 may_be_shown place (inr (inl given)) leads = given_name place given
 may_be_shown place (inr (inr none)) leads = absurd none

@@ -91,9 +91,13 @@ IsShortAsk asked =
     IfSome asked
     (λ ask. (length ask.aud ≤ binding_text_max) × (length ask.nonce ≤ binding_text_max))
 
--- the header that names the algorithm has at most 300 bytes, and a signature from 1 to 2,048
+-- the header that names the algorithm has at most 700 bytes
+abbrev pub HasShortHeader : Text → Type 0
+HasShortHeader alg = length (json_text (object (header_members (binding_header alg)))) ≤ 700
+
+-- so it has, and a signature has from 1 to 2,048
 pub record SignsShort (holder : AnySigner) : Type 0 where
-  pub header : length (json_text (object (header_members (binding_header holder.alg)))) ≤ 300
+  pub header : HasShortHeader holder.alg
   pub signature : (head body signature : List ℕ) → holder.good head body signature
       → (0 < length signature) × (length signature ≤ 2048)
 

@@ -17,6 +17,7 @@ pub mod ConvertingSteps
 pub mod ShowSteps
 pub mod PresentedValues
 pub mod NoForgery
+pub mod JudgedIssued
 pub mod Generated
 pub mod Summary
 pub mod GeneratedSteps

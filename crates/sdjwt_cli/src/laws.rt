@@ -1,5 +1,5 @@
 //! What the definitions of a run say together. Each law holds for every value.
-ghost use Rattle.std.specs.Prelude.{◌≡◌, ◌⊎◌, ◌+◌, ℕ, List, Some};
+ghost use Rattle.std.specs.Prelude.{◌≡◌, ◌⊎◌, ◌+◌, ◌≤◌, ℕ, List, Some, length};
 ghost use Rattle.std.specs.Io.KnownBytes.{Appends};
 ghost use Rattle.sd_outside.specs.Causes.{Rose};
 ghost use Rattle.sd_outside.specs.declared.status.Status.{Status};
@@ -14,12 +14,13 @@ ghost use Rattle.cli_parts.specs.Outside.{Outside};
 ghost use Rattle.sdjwt_cli.specs.Run.{Ends};
 ghost use Rattle.sdjwt_cli.specs.Presented.{PresentedOverFiles, PresentedOverRuns};
 ghost use Rattle.verifier_core.specs.Meanings.{meanings};
-ghost use Rattle.sdjwt_cli.specs.AnySigner.{any_signer, ShortFits};
+ghost use Rattle.sdjwt_cli.specs.AnySigner.{any_signer, HasShortHeader, ShortFits};
 ghost use Rattle.sdjwt_cli.specs.PresentedValues.{PresentedByAnyone, PresentedToCaller, PresentedOverValues};
-ghost use Rattle.sdjwt_cli.specs.NoForgery.{NoForgery};
+ghost use Rattle.sdjwt_cli.specs.NoForgery.{OfIssued, ShowsIssued, ShowsIssuedByPolicy};
+ghost use Rattle.sdjwt_cli.specs.JudgedIssued.{ShowsIssuedToCaller};
 
 use claim_tree::Path;
-use hmac_sign::{Signatures, Signer};
+use hmac_sign::Signatures;
 
 /// Each file of a command is named by its word, counted behind the command from 0.
 pub fn files_are_words()
@@ -69,10 +70,12 @@ pub fn presented_by_anyone<I: Signatures, H: Signatures, F: Fn(&Path) -> bool>()
 {}
 
 /// A key binding token fits behind what is issued, by whatever algorithm it is signed, where its
-/// header has at most 300 bytes, a signature from 1 to 2,048, and audience and nonce at most 256
-/// each.
+/// header has at most 700 bytes, a signature from 1 to 2,048, and audience and nonce at most 256
+/// each. So short is the header where the name of the algorithm has at most 100 bytes, whatever
+/// they are.
 pub fn short_fits<H: Signatures>()
-    ensures { (holder : H) (alg : List ℕ) → ShortFits (any_signer alg (H.good holder)) }
+    ensures fits { (holder : H) (alg : List ℕ) → ShortFits (any_signer alg (H.good holder)) }
+    ensures named { (alg : List ℕ) → length alg ≤ 100 → HasShortHeader alg }
 {}
 
 /// What [`presented_by_anyone`] says, where a caller checks the signatures, each by a meaning that
@@ -107,10 +110,20 @@ pub fn presented()
 {}
 
 /// What is accepted was issued: a text that is accepted with the signed part of an
-/// issued token, under any policy and at any moment, has some of the disclosures
+/// issued token, whatever is demanded and at any moment, has some of the disclosures
 /// that were issued with it, in any order, with those of all hidden places above,
-/// and shows the claims without the places of the others. The premise is that no
-/// disclosure that was not issued has the digest of one that was, or of a decoy.
-pub fn no_forgery<S: Signer>()
-    ensures { (signer : S) → NoForgery (S.alg_name_of signer) (S.good signer) }
+/// and shows the claims without the places of the others. So it is under any policy.
+/// The token is issued with whatever signatures, by an algorithm of any name. The
+/// premise is that no disclosure that was not issued has the digest of one that was,
+/// or of a decoy.
+pub fn no_forgery<S: Signatures>()
+    ensures demanded { (signer : S) (alg : List ℕ) → OfIssued alg (S.good signer) ShowsIssued }
+    ensures by_policy { (signer : S) (alg : List ℕ)
+        → OfIssued alg (S.good signer) ShowsIssuedByPolicy }
+{}
+
+/// So it is of what [`judge`](verifier_core::judge) accepts, where a caller checks the signatures,
+/// whatever it says of them: the payload that it is given shows what was issued.
+pub fn no_forgery_to_caller<S: Signatures>()
+    ensures { (signer : S) (alg : List ℕ) → OfIssued alg (S.good signer) ShowsIssuedToCaller }
 {}
