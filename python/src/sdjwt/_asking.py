@@ -178,7 +178,7 @@ def asking_of(text: bytes, check: CheckFunction | None) -> Asking | None:
     if check is not None and not has_other(policy.get("algs")) and not has_other(_holder_algs(policy)):
         raise ValueError("sdjwt: check is given, and no algorithm in algs of the policy is one that it is asked about")
     if check is None and not _is_checked_here(policy):
-        for holder, place in _holders(policy):
+        for holder, place in _with_sets(policy):
             warn_of_private(holder, place, "policy")
         return None
     return None if _is_no_object(text) else Asking(policy, check)
@@ -198,7 +198,7 @@ def _is_no_object(text: bytes) -> bool:
     return status == UNREADABLE and line.split()[2] in _TEXT_FAULTS
 
 
-def _holders(policy: dict[str, Any]) -> list[tuple[dict[str, Any], str]]:
+def _with_sets(policy: dict[str, Any]) -> list[tuple[dict[str, Any], str]]:
     """What has key sets in a policy, each with its place."""
     binding = policy.get("binding")
     return [(policy, ""), *([(binding, "/binding")] if isinstance(binding, dict) else [])]
@@ -207,7 +207,7 @@ def _holders(policy: dict[str, Any]) -> list[tuple[dict[str, Any], str]]:
 def skipped_of(text: bytes) -> tuple[SkippedKey, ...]:
     """The keys of a policy that the library reads over by itself."""
     policy = read_object(text, True) or {}
-    return tuple(key for holder, place in _holders(policy) for key in of_other_types(holder, "binding" if place else "keys"))
+    return tuple(key for holder, place in _with_sets(policy) for key in of_other_types(holder, "binding" if place else "keys"))
 
 
 def read_object(text: bytes, is_needed: bool) -> dict[str, Any] | None:
@@ -216,8 +216,13 @@ def read_object(text: bytes, is_needed: bool) -> dict[str, Any] | None:
         return None
     try:
         read = json.loads(text.decode(), parse_int=_whole)
-    except (ValueError, RecursionError):
+    except ValueError:
         return None
+    except RecursionError:
+        # it nests too deep for the library too, or else the stack of the caller is nearly full
+        if _is_no_object(text):
+            return None
+        raise
     return read if isinstance(read, dict) else None
 
 

@@ -1,8 +1,9 @@
 """The key of a holder in an order: the claim `cnf` of its payload (RFC 7800)."""
 from __future__ import annotations
 
-import json
+from typing import Any
 
+from sdjwt._asking import read_object
 from sdjwt._key_sets import PRIVATE
 
 _SECRET = (*PRIVATE, "k")
@@ -11,14 +12,7 @@ _SECRET = (*PRIVATE, "k")
 def refuse_secret_key(order: bytes) -> None:
     """A private or secret member in `cnf.jwk` is refused, since a token carries it where all can read it (RFC 7800 section 3.2)."""
     # in JSON a name can be written otherwise only by escapes
-    if b'"cnf"' not in order and b"\\u" not in order:
-        return
-    try:
-        value = json.loads(order.decode())
-    except ValueError:
-        return  # the library says what is wrong with it
-    except RecursionError:
-        raise ValueError("sdjwt: order is nested too deep") from None
+    value: Any = read_object(order, True) if b'"cnf"' in order or b"\\u" in order else None
     for name in ("payload", "cnf", "jwk"):
         value = value.get(name) if isinstance(value, dict) else None
     found = [name for name in _SECRET if isinstance(value, dict) and name in value]

@@ -1,0 +1,96 @@
+#!/bin/sh
+# Tests the C library: builds it, and runs c/tests/calls.c over the vectors of vectors/, on one thread and on eight, under
+# AddressSanitizer with UndefinedBehaviorSanitizer, and under valgrind; then with each request for memory refused in turn;
+# then all calls beside a second reading, at random; then the programs of c/examples that check signatures by OpenSSL,
+# over the presentation of RFC 9901, and make them.
+#
+#   sh c/check.sh               a tool that is missing is told and skipped
+#   sh c/check.sh --install     what is missing is installed from Debian's packages first
+set -eu
+
+case ${1-} in
+    '') ;;
+    --install) apt-get install -y gcc binutils valgrind pkg-config python3 libssl-dev openssl ;;
+    *) echo 'usage: sh c/check.sh [--install]' >&2; exit 2 ;;
+esac
+here=$(cd "$(dirname "$0")" && pwd)
+lib=$here/out/lib
+: "${CC:=cc}"
+made=$(mktemp -d)
+trap 'rm -rf "$made"' EXIT
+trap 'exit 1' HUP INT TERM
+strict='-std=c11 -Wall -Wextra -Wpedantic -Werror -g -O1 -pthread'
+
+python3 "$here/tests/vectors.py" "$made/vectors"
+echo '#include "sdjwt.h"' >"$made/alone.c"
+for standard in c99 c11 c17; do
+    "$CC" -std=$standard -Wall -Wextra -Wpedantic -Werror -I"$here/out/include" -c -o "$made/alone.o" "$made/alone.c"
+done
+cp "$made/alone.c" "$made/alone.cpp"
+if command -v "${CXX:=c++}" >/dev/null; then
+    "$CXX" -std=c++11 -Wall -Wextra -Wpedantic -Werror -I"$here/out/include" -c -o "$made/alone.o" "$made/alone.cpp"
+else
+    echo 'skipped: the header in C++ (no c++)'
+fi
+
+# shellcheck disable=SC2086 # words
+compile() {
+    output=$1
+    shift
+    "$CC" $strict -I"$here/out/include" "$here/tests/calls.c" "$@" -o "$made/$output"
+}
+
+compile sanitized -fsanitize=address,undefined -fno-sanitize-recover=all "$lib/libsdjwt.a"
+echo 'Under AddressSanitizer and UndefinedBehaviorSanitizer:'
+ASAN_OPTIONS=detect_leaks=1 "$made/sanitized" "$made/vectors" 8
+
+compile shared -L"$lib" -lsdjwt -Wl,-rpath,"$lib"
+echo 'With the shared library, on threads with the stack that the header tells:'
+"$made/shared" "$made/vectors" 8 small
+
+compile plain "$lib/libsdjwt.a"
+if command -v valgrind >/dev/null; then
+    echo 'Under valgrind:'
+    valgrind --quiet --leak-check=full --show-leak-kinds=all --errors-for-leak-kinds=all --error-exitcode=9 \
+        "$made/plain" "$made/vectors" 0
+else
+    echo 'skipped: valgrind is not installed'
+fi
+
+# shellcheck disable=SC2086 # words
+"$CC" $strict -I"$here/out/include" "$here/tests/memory.c" "$lib/libsdjwt.a" \
+    -Wl,--wrap=malloc,--wrap=realloc,--wrap=free -o "$made/memory"
+echo 'With each request for memory refused in turn:'
+"$made/memory" "$here/../examples/walk"
+
+echo 'All calls beside a second reading, at random:'
+python3 "$here/../tests/library.py" "$lib/libsdjwt.so" --count 200
+
+# The programs over OpenSSL that docs/C.md names: one verifies, and the other issues and presents.
+if echo '#include <openssl/evp.h>' | "$CC" -E - >/dev/null 2>&1; then
+    # shellcheck disable=SC2086 # words
+    for how in '-fsanitize=address,undefined -fno-sanitize-recover=all' ''; do
+        for name in public signed; do
+            "$CC" $strict $how -I"$here/out/include" "$here/examples/$name.c" "$lib/libsdjwt.a" -lcrypto -o "$made/$name"
+        done
+        python3 "$here/tests/letters.py" ${how:+--step 101} "$made/public" "$here/../vectors/rfc9901"
+        if command -v openssl >/dev/null; then
+            python3 "$here/tests/issued.py" "$made/signed"
+            python3 "$here/tests/presented.py" "$made/signed" "$lib/libsdjwt.so"
+        else
+            echo 'skipped: tokens that are signed by OpenSSL (no openssl)'
+        fi
+    done
+else
+    echo 'skipped: signatures by OpenSSL (no libssl-dev)'
+fi
+
+if command -v pkg-config >/dev/null; then
+    # shellcheck disable=SC2046 # words
+    "$CC" -std=c11 -pthread "$here/tests/calls.c" \
+        $(PKG_CONFIG_PATH=$lib/pkgconfig pkg-config --cflags --libs sdjwt) -o "$made/by_pkg_config"
+    LD_LIBRARY_PATH=$lib "$made/by_pkg_config" "$made/vectors" 1
+else
+    echo 'skipped: pkg-config is not installed'
+fi
+echo 'c/check.sh: all passed'
