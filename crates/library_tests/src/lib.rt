@@ -20,10 +20,6 @@ mod look_up_tests;
 #[cfg(test)]
 mod presenting_tests;
 #[cfg(test)]
-mod recorded_tests;
-#[cfg(test)]
-mod recording;
-#[cfg(test)]
 mod signing_tests;
 #[cfg(test)]
 mod verifier_tests;
