@@ -236,7 +236,7 @@ class Policy:
 
     @property
     def skipped_keys(self) -> tuple[SkippedKey, ...]:
-        """The keys in the policy that are never used, each with the reason."""
+        """The keys of the policy that were skipped, each with the reason."""
         return skipped_of(self._text) if self._asking is None else self._asking.skipped
 
 

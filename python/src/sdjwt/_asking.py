@@ -96,7 +96,7 @@ def _check_under(jwk: object, alg: str) -> Check | None:
 class Asking:
     """What answers the questions about the tokens of a policy.
 
-    `file` is the policy as the library takes it, and `skipped` are the keys of its sets that are not used.
+    `file` is the policy as the library takes it, and `skipped` are the keys of its sets that were skipped.
     """
 
     __slots__ = ("_algs", "_checking", "_policy", "file", "skipped")

@@ -22,7 +22,7 @@ class PrivateKeyWarning(UserWarning):
 
 @dataclass(frozen=True)
 class SkippedKey:
-    """A key of a policy that is not used, and why.
+    """A key of a policy that was skipped, and why.
 
     `where` is "keys" for the issuers' set and "binding" for the holders', `index` is the position in the set, counted from 0,
     and `kid` is the name of the key or None.
@@ -35,7 +35,7 @@ class SkippedKey:
 
 
 class KeySet(NamedTuple):
-    """The keys of a set that are used, those that are skipped, and a description of each that is invalid."""
+    """The keys of a set that can be used, those that were skipped, and a description of each that is invalid."""
 
     keys: list[Key]
     skipped: tuple[SkippedKey, ...]
