@@ -163,9 +163,9 @@ SDJWT_CHECKED sdjwt_status sdjwt_present(const uint8_t *order, size_t order_len,
  * Where it has none, that the key is the one of `cnf` is yours to know.
  *
  * YOU ANSWER for your word and your signature. Say SDJWT_GOOD only where you checked `signature` over just the bytes of
- * `text`, with the algorithm `alg`, under a key of the issuer's that you had before the token came, and whose type
- * serves `alg`: an HMAC, as HS256, under no public key. Sign just the `*len` bytes of the answer, once the order is
- * what its user agreed to: whoever sees it learns what is shown.
+ * `text`, with the algorithm `alg`, under a key of the issuer's that you had before the token came and whose type fits
+ * `alg`: never check an HMAC, such as HS256, under a public key. Sign just the `*len` bytes of the answer, once the
+ * order is what its user agreed to: whoever sees it learns what is shown.
  */
 SDJWT_CHECKED sdjwt_status sdjwt_present_ask(const uint8_t *order, size_t order_len,
                                              const uint8_t *token, size_t token_len, uint64_t now,
@@ -281,10 +281,10 @@ SDJWT_CHECKED sdjwt_status sdjwt_policy_verify(sdjwt_policy *handle,
  * algorithm `alg`, under a key that you trust and that serves this algorithm: for the issuer one that you had before
  * the token came, and for the holder that of `cnf` in the `payload` of the question. Take no key out of a header.
  *
- * TAKE THE KEY BY `alg` AND BY ITS TYPE. A name of shared keys, as HS256, is asked about where a list has it, and a
- * policy without `algs` lists HS256. Check an HMAC only under a key that was made for HMAC, never under the bytes of a
- * public key, which everybody has (RFC 8725 section 3.1), and take no secret out of a token. Whose keys are all public
- * lists no such name.
+ * SELECT THE KEY BY `alg` AND BY ITS TYPE. If a list names an HMAC, such as HS256, you are asked about it too, and a
+ * policy without `algs` lists HS256. Check an HMAC only under a key that was made for HMAC: never under the bytes of a
+ * public key, which everybody has (RFC 8725 section 3.1), and never under a secret that is in the token. If all your
+ * keys are public, list no HMAC.
  */
 SDJWT_CHECKED sdjwt_status sdjwt_judge(const uint8_t *policy, size_t policy_len,
                                        const uint8_t *algs, size_t algs_len,

@@ -1,7 +1,8 @@
 """Random changes of a token that is signed with ES256, each with the verdict on the same change of one signed with HS256.
 
 The two have the same claims, the same disclosures and the same key binding token, and differ in the first letter of `alg`, in
-the signatures and in what hangs on them. What is inside of a signature is changed as well, and then it is signed anew.
+the signatures and in what hangs on them. What is inside of a signature is changed as well, and then it is signed anew. The one
+with HS256 has the same verdict under a policy with both kinds of keys, whose HMACs are checked in Python.
 """
 import hashlib
 import json
@@ -14,6 +15,7 @@ import sdjwt
 pytest.importorskip("cryptography")
 from public import Key  # noqa: E402
 from signing import decoded, encoded, mac, verdict  # noqa: E402
+from test_judged_vectors import is_other_holder  # noqa: E402
 
 COUNT = 2000
 NOW = 1_800_000_000
@@ -34,6 +36,17 @@ def policy_of(alg, issuer, holder):
 
 SHARED = sdjwt.Policy(policy_of("HS256", oct_key(ISSUER, "one"), oct_key(HOLDER, "ada")))
 PUBLIC = sdjwt.Policy(policy_of("ES256", PUBLIC_ISSUER.jwk(kid="one"), PUBLIC_HOLDER.jwk(kid="ada")))
+
+
+def with_both_kinds():
+    """The policies for both algorithms in one, with the public keys in front."""
+    shared, public = policy_of("HS256", oct_key(ISSUER, "one"), oct_key(HOLDER, "ada")), policy_of("ES256", PUBLIC_ISSUER.jwk(kid="one"), PUBLIC_HOLDER.jwk(kid="ada"))
+    for one, other in ((shared, public), (shared["binding"], public["binding"])):
+        one["keys"]["keys"] = other["keys"]["keys"] + one["keys"]["keys"]
+    return sdjwt.Policy({**shared, "algs": ["HS256", "ES256"]})
+
+
+BOTH = with_both_kinds()
 
 
 class Presentation:
@@ -159,6 +172,9 @@ def test_each_change_has_the_verdict_that_it_has_by_hmac():
             tokens = change(chosen, tokens)
         by_shared, by_public = (without_position(verdict(policy, token.encode(), NOW)) for policy, token in zip((SHARED, PUBLIC), tokens))
         assert by_public == by_shared, (number, change.__name__, tokens[1])
+        for token, due in zip(tokens, (by_shared, by_public)):
+            found = without_position(verdict(BOTH, token.encode(), NOW))
+            assert found == due or is_other_holder(due, found), (number, change.__name__, token)
         line = by_shared if isinstance(by_shared, str) else "accepted"
         seen[line.split(" at ")[0]] = seen.get(line.split(" at ")[0], 0) + 1
     print(seen)

@@ -17,21 +17,21 @@ each = pytest.mark.parametrize
 
 # A key that is none, and a part of the reason.
 NONE = [
-    (5, "no object"), (None, "no object"), ("key", "no object"), ([], "no object"), ({}, '"kty"'), ({"kty": 1}, '"kty"'), ({"kty": None, "kid": "a"}, '"kty"'),
-    ({"kty": "RSA"}, "n is no base64url"), ({"kty": "rsa"}, "kty is none of"), ({"kty": "AKP", "alg": "ML-DSA-44"}, "kty is none of"),
-    ({"kty": "EC", "crv": "secp256k1", "x": "A" * 43, "y": "A" * 43}, "crv is none of"), ({"kty": "EC"}, "crv is none of"), ({"kty": "EC", "crv": ["P-256"]}, "crv is none of"),
+    (5, "not an object"), (None, "not an object"), ("key", "not an object"), ([], "not an object"), ({}, '"kty"'), ({"kty": 1}, '"kty"'), ({"kty": None, "kid": "a"}, '"kty"'),
+    ({"kty": "RSA"}, "n is no base64url"), ({"kty": "rsa"}, "kty is not one of"), ({"kty": "AKP", "alg": "ML-DSA-44"}, "kty is not one of"),
+    ({"kty": "EC", "crv": "secp256k1", "x": "A" * 43, "y": "A" * 43}, "crv is not one of"), ({"kty": "EC"}, "crv is not one of"), ({"kty": "EC", "crv": ["P-256"]}, "crv is not one of"),
     ({"kty": "OKP", "crv": "Ed448", "x": "A" * 76}, "crv is not Ed25519"), ({"kty": "OKP", "crv": "X25519", "x": "A" * 43}, "crv is not Ed25519"),
     ({**Key("ES256").jwk(), "x": "AAAA"}, "x has not just 32 bytes"), ({**Key("ES256").jwk(), "y": encoded(bytes(32))}, "no point of P-256"),
     ({**Key("ES384").jwk(), "kid": 7}, "kid is no text"), ({**Key("PS256").jwk(), "n": "AQ"}, "n has fewer than 2048 bits"), ({**Key("PS256").jwk(), "e": "AA"}, "no key of RSA"),
     ({"kty": "oct"}, "k is no base64url"), ({"kty": "oct", "k": SECRET + "="}, "k is no base64url"), ({"kty": "oct", "k": ""}, "k is no base64url"),
-    ({"kty": "oct", "k": "A" * 42 + "B"}, "k has bits"), ({"kty": "oct", "k": encoded(bytes(31))}, "k has 31 bytes, of the at least 32 that HS256 wants"),
-    ({"kty": "oct", "k": encoded(bytes(40)), "alg": "HS384"}, "k has 40 bytes, of the at least 48 that HS384 wants"), ({"kty": "oct", "k": SECRET, "kid": []}, "kid is no text"),
+    ({"kty": "oct", "k": "A" * 42 + "B"}, "k has bits"), ({"kty": "oct", "k": encoded(bytes(31))}, "k has 31 bytes, and HS256 needs at least 32"),
+    ({"kty": "oct", "k": encoded(bytes(40)), "alg": "HS384"}, "k has 40 bytes, and HS384 needs at least 48"), ({"kty": "oct", "k": SECRET, "kid": []}, "kid is no text"),
 ]
 # A key that says itself that it checks nothing, and a part of the reason.
 UNUSED = [
-    ({"use": "enc"}, "its use is not sig"), ({"use": None}, "its use is not sig"), ({"key_ops": ["sign"]}, "its key_ops have no verify"), ({"key_ops": None}, "its key_ops have no verify"),
-    ({"key_ops": "verify"}, "its key_ops have no verify"), ({"alg": "ES384"}, "its alg is not one of its type"), ({"alg": None}, "its alg is not one of its type"),
-    ({"alg": ["ES256"]}, "its alg is not one of its type"), ({"alg": "HS256"}, "its alg is not one of its type"),
+    ({"use": "enc"}, "its use is not sig"), ({"use": None}, "its use is not sig"), ({"key_ops": ["sign"]}, "its key_ops do not include verify"), ({"key_ops": None}, "its key_ops do not include verify"),
+    ({"key_ops": "verify"}, "its key_ops do not include verify"), ({"alg": "ES384"}, "its alg does not fit its type"), ({"alg": None}, "its alg does not fit its type"),
+    ({"alg": ["ES256"]}, "its alg does not fit its type"), ({"alg": "HS256"}, "its alg does not fit its type"),
 ]
 
 

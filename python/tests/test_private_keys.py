@@ -41,7 +41,7 @@ def refused(call, name):
         call()
     said = str(caught.value)
     assert not isinstance(caught.value, sdjwt.SdJwtError), said
-    return "cnf.jwk" in said and f"the member {name}," in said and SECRET[:9] not in said
+    return "cnf.jwk" in said and f"the private member {name}," in said and SECRET[:9] not in said
 
 
 # ---- orders
@@ -175,7 +175,7 @@ def test_a_private_key_in_a_policy_is_named_by_a_warning(alg):
 @each("name", PRIVATE)
 def test_each_private_member_is_named(name):
     said = told(lambda: sdjwt.Policy({"keys": {"keys": [{**Key("ES256").jwk(), name: SECRET}]}, "algs": ["ES256"]}))
-    assert len(said) == 1 and f"by its member {name}:" in str(said[0].message)
+    assert len(said) == 1 and f"the private member {name}:" in str(said[0].message)
 
 
 def test_where_shared_keys_are_alone_a_private_key_is_named_too():

@@ -134,7 +134,7 @@ def test_a_key_that_says_another_use_is_not_taken(said):
         # of a type that is not known, and no other key is left
         with pytest.raises(sdjwt.Unreadable) as caught:
             sdjwt.Policy(policy)
-        assert caught.value.line == "unreadable 1 wrong keys" and caught.value.detail.startswith(f"at /keys/keys/0: its {list(said)[0]} is none of ")
+        assert caught.value.line == "unreadable 1 wrong keys" and caught.value.detail.startswith(f"at /keys/keys/0: its {list(said)[0]} is not one of ")
         policy["keys"]["keys"].append(key.jwk(kid="b"))
     assert refusal(policy, token) == "refused 9 issuerKeyUnknown"
     second = {**policy, "keys": {"keys": [*policy["keys"]["keys"], key.jwk(kid="a", alg="ES256", use="sig", key_ops=["sign", "verify"])]}}

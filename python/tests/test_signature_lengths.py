@@ -37,7 +37,7 @@ def test_a_signature_has_the_length_of_its_algorithm(alg):
                 with pytest.raises(ValueError) as caught:
                     call(kind(length))
                 said = str(caught.value)
-                assert "sign" in said and alg in said and f"has {length} bytes" in said and all(str(due) in said for due in LENGTHS[alg])
+                assert "sign" in said and alg in said and f"returned {length} bytes" in said and all(str(due) in said for due in LENGTHS[alg])
 
 
 @each("alg", ["ES256", "ES384", "ES512"])

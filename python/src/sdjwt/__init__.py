@@ -95,8 +95,9 @@ def issue(
     cryptography, or a function that is given the bytes to sign and answers the signature. A key of P-256, P-384, P-521 or Ed25519
     signs by ES256, ES384, ES512 or EdDSA. For one of RSA `alg` names the algorithm: PS256, PS384, PS512, RS256, RS384 or RS512.
     For a function `alg` names its algorithm, and the signature is the one that a JWS has: of ES256 the 64 bytes of r and s, and
-    not the DER that many a vault answers. It is asked once, and not for an order that 51 to 60 refuse. A private or secret member
-    in `cnf.jwk` of the payload is a ValueError.
+    not the DER that many a vault answers. It is asked once, and not for an order that 51 to 60 refuse.
+
+    If `cnf.jwk` of the payload is a private or a symmetric key, `issue` raises ValueError: anyone who sees the token could read it.
 
     >>> def vault(text):
     ...     return bytes(64)                # the signature that your vault makes of these bytes
@@ -184,10 +185,10 @@ class Policy:
     Its `keys` may have public keys beside those of the kind `oct`, where its `algs` name their algorithms: ES256, ES384,
     ES512, EdDSA, PS256, RS256 and the like. Signatures under them are checked by the package cryptography. The key of a
     holder is `cnf.jwk` of the token, or the key of the `keys` of the `binding` that `cnf.kid` names. `binding` may have
-    `algs` of its own, which are then the algorithms of holders; `keys` may be missing in it, where one of these is of
-    public keys. A key that is none is passed over, which `skipped_keys` tells. `check` is a function that is asked of a
-    signature for which no key is here, by a `Question`: it answers True where it is good, False where it is bad, and None
-    where it has no key for it. Of an HMAC it is not asked.
+    `algs` of its own, the algorithms of holders; it needs no `keys` if one of these is for public keys. An invalid key is
+    skipped, and `skipped_keys` lists it. `check` is a function that is asked of a signature for which no key is here, by a
+    `Question`: it answers True where it is good, False where it is bad, and None where it has no key for it. It is never
+    asked about an HMAC.
 
     >>> key = "dGhlIHRpY2tldCBvZmZpY2Uga2V5LCBub3QgeW91cnM"
     >>> policy = Policy({"keys": {"keys": [{"kty": "oct", "k": key}]}, "require": ["seat"]})
@@ -235,7 +236,7 @@ class Policy:
 
     @property
     def skipped_keys(self) -> tuple[SkippedKey, ...]:
-        """The keys of the policy that check no signature, whatever their name and its `algs`, each with the reason for it."""
+        """The keys of the policy that were skipped, each with the reason."""
         return skipped_of(self._text) if self._asking is None else self._asking.skipped
 
 

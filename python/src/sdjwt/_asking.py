@@ -1,7 +1,7 @@
-"""A policy whose signatures are checked here: under its keys of both kinds, or by a function of the caller.
+"""A policy whose signatures are checked here: under its public and symmetric keys, or by a function of the caller.
 
 No rule of SD-JWT stands here. The library judges the token, and asks of each signature whether it is good; what is decided
-is only under which key it is checked. A policy of shared keys alone is the library's from end to end.
+is only under which key it is checked. A policy with symmetric keys only is left to the library.
 """
 from __future__ import annotations
 
@@ -19,9 +19,9 @@ from sdjwt._library import ASKS, BAD, GOOD, UNKNOWN, UNREADABLE, UNSAID, Handle
 
 _USUAL = ["HS256"]
 _NO_KEYS: dict[str, Any] = {"keys": {"keys": []}}
-# What a text has that may be read here: in JSON a name can be written otherwise only by escapes.
+# What a file must contain to be read here. The only other way to write a name in JSON is with escapes.
 _HINTS = re.compile(rb'algs|\\u|"(?:d|p|q|dp|dq|qi|oth)"')
-# A text is no object of whole numbers, which the library tells by its place in the text as it was given.
+# Why a file is not a JSON object of whole numbers.
 _TEXT_FAULTS = (b"tooLong", b"notJson", b"notWhole", b"notObject")
 _read_json = json.JSONDecoder().raw_decode
 
@@ -58,7 +58,7 @@ class Checking:
         self.holders: list[Key] = []
 
     def answer(self, question: bytes) -> int:
-        """What is said of the signature of a question. A function is asked of no HMAC, which shared keys alone may check."""
+        """What is said of the signature of a question. The function is never asked about an HMAC."""
         asked = _read_json(question.decode())[0]
         alg, text, signature = asked["alg"], asked["text"].encode(), decoded(asked["signature"])
         payload = asked.get("payload")
@@ -70,9 +70,9 @@ class Checking:
         return _said(self.check(Question(asked["ask"], alg, asked.get("kid"), asked.get("typ"), text, signature, payload)))
 
     def _of_holder(self, payload: dict[str, Any], alg: str) -> Check | None:
-        """The check under the key that `cnf` names among those of the binding, or has (RFC 7800 section 3).
+        """The check under the key that `cnf` names among those of the binding, or contains (RFC 7800 section 3).
 
-        A shared key is only ever one of the binding: what is in a token can be read by all.
+        A symmetric key is always one of the binding, because anyone who sees the token can read `cnf`.
         """
         confirmed = payload.get("cnf")
         if not isinstance(confirmed, dict):
@@ -84,7 +84,7 @@ class Checking:
 
 
 def _check_under(jwk: object, alg: str) -> Check | None:
-    """The check by an algorithm under the public key that a token has."""
+    """The check by an algorithm under the public key in a token."""
     if not isinstance(jwk, dict) or alg not in serves(jwk):
         return None
     try:
@@ -94,9 +94,9 @@ def _check_under(jwk: object, alg: str) -> Check | None:
 
 
 class Asking:
-    """What answers the questions about the tokens of a policy. `file` is the policy as the library takes it.
+    """What answers the questions about the tokens of a policy.
 
-    `skipped` are the keys of its sets that check nothing.
+    `file` is the policy as the library takes it, and `skipped` are the keys of its sets that were skipped.
     """
 
     __slots__ = ("_algs", "_checking", "_policy", "file", "skipped")
@@ -137,7 +137,7 @@ class Asking:
 
 
 def _need_cryptography() -> None:
-    """The key of a holder that a token has is read when the token comes, so that it can be is said before."""
+    """The package cryptography has to be installed, for public keys that will come with tokens."""
     try:
         from sdjwt import _signatures  # noqa: F401
     except ImportError as missing:
@@ -152,12 +152,12 @@ def _holder_algs(policy: dict[str, Any]) -> Any:
 
 
 def _without_keys(policy: dict[str, Any]) -> dict[str, Any]:
-    """A policy as the library takes it, which looks at no key where the caller checks: with sets of none, and no list of holders."""
+    """A policy as the library takes it: without the list of holders, and with empty key sets, because the caller checks."""
     said = {**policy, **(_NO_KEYS if has_set(policy) else {})}
     binding = policy.get("binding")
     if isinstance(binding, dict):
         rest = {name: value for name, value in binding.items() if name != "algs"}
-        # where holders have public keys these are in the tokens, and no set is wanted
+        # public keys of holders are in the tokens, so their set may be missing
         is_free = "keys" not in binding and has_other(_holder_algs(policy))
         said["binding"] = {**rest, **(_NO_KEYS if is_free or has_set(binding) else {})}
     return said
@@ -170,7 +170,7 @@ def need_function(check: object) -> None:
 
 
 def asking_of(text: bytes, check: CheckFunction | None) -> Asking | None:
-    """How a policy asks. None where the library checks by itself, as it does for one of shared keys alone."""
+    """How a policy asks. None if it has symmetric keys only, so that the library checks by itself."""
     need_function(check)
     policy = read_object(text, check is not None)
     if policy is None:
@@ -185,7 +185,7 @@ def asking_of(text: bytes, check: CheckFunction | None) -> Asking | None:
 
 
 def _is_checked_here(policy: dict[str, Any]) -> bool:
-    """Whether a policy is not of shared keys alone: holders have a list of their own, or another key than an `oct` one may sign."""
+    """Whether holders have a list of their own, or an issuer or a holder may sign with a public key."""
     binding = policy.get("binding")
     if isinstance(binding, dict) and "algs" in binding:
         return True
@@ -193,19 +193,19 @@ def _is_checked_here(policy: dict[str, Any]) -> bool:
 
 
 def _is_no_object(text: bytes) -> bool:
-    """Whether the library reads no object of whole numbers, whatever its members are."""
+    """Whether the library says that a file is not a JSON object of whole numbers."""
     status, line = _library.call("verify", text, b"", 0)
     return status == UNREADABLE and line.split()[2] in _TEXT_FAULTS
 
 
 def _with_sets(policy: dict[str, Any]) -> list[tuple[dict[str, Any], str]]:
-    """What has key sets in a policy, each with its place."""
+    """The objects of a policy that have key sets, each with its place."""
     binding = policy.get("binding")
     return [(policy, ""), *([(binding, "/binding")] if isinstance(binding, dict) else [])]
 
 
 def skipped_of(text: bytes) -> tuple[SkippedKey, ...]:
-    """The keys of a policy that the library reads over by itself."""
+    """The keys of a policy that the library skips."""
     policy = read_object(text, True) or {}
     return tuple(key for holder, place in _with_sets(policy) for key in of_other_types(holder, "binding" if place else "keys"))
 
@@ -219,7 +219,7 @@ def read_object(text: bytes, is_needed: bool) -> dict[str, Any] | None:
     except ValueError:
         return None
     except RecursionError:
-        # it nests too deep for the library too, or else the stack of the caller is nearly full
+        # the library refuses such a depth too; else the stack of the caller is nearly full
         if _is_no_object(text):
             return None
         raise
@@ -232,7 +232,7 @@ def _whole(digits: str) -> float:
 
 
 def has_other(algs: object) -> bool:
-    """Whether a list of algorithms has one that is not of shared keys."""
+    """Whether a list of algorithms has one that is not an HMAC."""
     return isinstance(algs, list) and not all(map(is_shared, algs))
 
 

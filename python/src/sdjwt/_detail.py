@@ -388,7 +388,7 @@ def _key_form(key: Any, place: str) -> str:
 
 
 def _any_keys(value: Any, place: str, file: dict[str, Any]) -> str:
-    """A key set, whatever its keys are."""
+    """A key set, whose keys may be invalid."""
     if isinstance(value, dict) and isinstance(value.get("keys"), list):
         return ""
     has = f"it is {_is(value)}" if not isinstance(value, dict) else 'it has no list "keys"'
@@ -407,12 +407,12 @@ def _key_set(value: Any, place: str, file: dict[str, Any]) -> str:
 
 
 def key_set_fault(value: Any) -> str:
-    """Why what stands in `keys` is no key set, and nothing where it is one, whatever its keys are."""
+    """Why the value of `keys` is not a key set; empty if it is one. Its keys may be invalid."""
     return _any_keys(value, "/keys", {})
 
 
 def text_fault(value: Any, place: str) -> str:
-    """Why a value is no text, and nothing where it is one."""
+    """Why a value is not a string; empty if it is one."""
     return _text(value, place, {})
 
 

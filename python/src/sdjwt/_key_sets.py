@@ -1,4 +1,4 @@
-"""Key sets of a policy or a present order (RFC 7517 section 5): the keys that check signatures, and those that are passed over."""
+"""Key sets of a policy or a present order (RFC 7517 section 5): which keys are used, and which are skipped and why."""
 from __future__ import annotations
 
 import inspect
@@ -10,21 +10,22 @@ from typing import Any, NamedTuple, Optional
 from sdjwt._errors import Unreadable
 from sdjwt._keys import BadKey, Key, UnusedKey, key_of
 
-# The members of a JWK that are private (RFC 7518 sections 6.2.2 and 6.3.2, RFC 8037 section 2).
+# The private members of a JWK (RFC 7518 sections 6.2.2 and 6.3.2, RFC 8037 section 2).
 PRIVATE = ("d", "p", "q", "dp", "dq", "qi", "oth")
-_TOLD = 8
+# How many invalid keys of one set a message describes.
+_DESCRIBED_MAX = 8
 
 
 class PrivateKeyWarning(UserWarning):
-    """A key of which the public half is wanted has its private half too."""
+    """A key set contains a private key instead of a public one."""
 
 
 @dataclass(frozen=True)
 class SkippedKey:
-    """A key of a policy that checks no signature there, and why.
+    """A key of a policy that was skipped, and why.
 
-    `where` is "keys" or "binding", which has the set that it stands in, `index` its place in it, counted from 0, and `kid` its
-    name or None.
+    `where` is "keys" for the issuers' set and "binding" for the holders', `index` is the position in the set, counted from 0,
+    and `kid` is the name of the key or None.
     """
 
     where: str
@@ -34,7 +35,7 @@ class SkippedKey:
 
 
 class KeySet(NamedTuple):
-    """What is read of a set: its keys, those that are passed over, and of these what is wrong with those that are none."""
+    """The keys of a set that can be used, those that were skipped, and a description of each that is invalid."""
 
     keys: list[Key]
     skipped: tuple[SkippedKey, ...]
@@ -42,23 +43,23 @@ class KeySet(NamedTuple):
 
 
 def has_set(holder: Mapping[str, Any]) -> bool:
-    """Whether the member `keys` is a key set, whatever its keys are."""
+    """Whether the member `keys` is a key set; its keys may be invalid."""
     keys = holder.get("keys")
     return isinstance(keys, dict) and isinstance(keys.get("keys"), list)
 
 
 def jwks(holder: Mapping[str, Any]) -> list[Any]:
-    """The keys of the set in the member `keys`, where it is one."""
+    """The keys of the set in the member `keys`; none if it is not a set."""
     return list(holder["keys"]["keys"]) if has_set(holder) else []
 
 
 def is_oct(jwk: object) -> bool:
-    """Whether a key is of the type of shared keys."""
+    """Whether a key is of the type of symmetric keys."""
     return isinstance(jwk, dict) and jwk.get("kty") == "oct"
 
 
 def read_set(holder: Mapping[str, Any], where: str, place: str, file: str) -> KeySet:
-    """The set in the member `keys` of what stands at a place of a policy or a present order. A key that is none is passed over."""
+    """Reads the key set in the member `keys` of an object, which is at this place of a policy or a present order."""
     found = KeySet([], (), [])
     warn_of_private(holder, place, file)
     skipped = []
@@ -78,31 +79,32 @@ def _skipped(where: str, index: int, jwk: object, reason: str) -> SkippedKey:
 
 
 def need_a_key(found: KeySet, algs: object, where: str) -> None:
-    """Where keys of a set are none, one has to be left for one of the algorithms, or the set is at fault."""
+    """If keys of a set are invalid, another key must be left for one of the algorithms."""
     names = [alg for alg in algs if isinstance(alg, str)] if isinstance(algs, list) else []
     if not found.faults or any(alg in key.checks for key in found.keys for alg in names):
         return
-    more = [f"and {len(found.faults) - _TOLD} more"] if len(found.faults) > _TOLD else []
-    raise Unreadable(f"unreadable 1 wrong {where}", "; ".join([*found.faults[:_TOLD], *more]))
+    more = len(found.faults) - _DESCRIBED_MAX
+    described = [*found.faults[:_DESCRIBED_MAX], *([f"and {more} more"] if more > 0 else [])]
+    raise Unreadable(f"unreadable 1 wrong {where}", "; ".join(described))
 
 
 def of_other_types(holder: Mapping[str, Any], where: str) -> tuple[SkippedKey, ...]:
-    """The keys that the library reads over by itself, since it knows shared keys alone."""
-    reason = "its kty is not oct, and no algorithm of public keys is taken"
+    """The keys of a set that the library skips, because it knows symmetric keys only."""
+    reason = "its kty is not oct, and the policy names no algorithm for public keys"
     return tuple(_skipped(where, index, jwk, reason) for index, jwk in enumerate(jwks(holder)) if not is_oct(jwk))
 
 
 def warn_of_private(holder: Mapping[str, Any], place: str, file: str) -> None:
-    """Names each key of a set that has private members beside its public ones."""
+    """Warns of each private key in the set of an object, which is at this place of a file."""
     for index, jwk in enumerate(jwks(holder)):
         names = [name for name in PRIVATE if isinstance(jwk, dict) and name in jwk]
         if names and not is_oct(jwk):
-            _warn(f"sdjwt: the key at {place}/keys/keys/{index} of the {file} is private, by its member {names[0]}: "
-                  "whoever can read it can sign. Give the public key alone.")
+            _warn(f"sdjwt: the key at {place}/keys/keys/{index} of the {file} has the private member {names[0]}: "
+                  "anyone who can read it can sign. Give the public key only.")
 
 
 def _warn(said: str) -> None:
-    """Warns at the line that called the package."""
+    """Warns, with the line that called the package as the source."""
     level, frame = 1, inspect.currentframe()
     while frame is not None and frame.f_globals.get("__name__", "").partition(".")[0] == "sdjwt":
         level, frame = level + 1, frame.f_back

@@ -1,8 +1,8 @@
 """Keys, as JWKs (RFC 7517), and the check of a signature under one.
 
-A key serves the algorithms of its type and no other: ES256 is for P-256 alone, and HS256 for a key of the type `oct` alone, so
-that nobody can have a public key taken for a shared one (RFC 8725 section 3.1). The mathematics of public keys is that of the
-package cryptography, which is loaded only where one is read; an HMAC is that of Python's standard library.
+A key serves the algorithms of its type and no other: ES256 is only for P-256, and HS256 only for the type `oct`. So a public
+key is never used as a symmetric one (RFC 8725 section 3.1). Signatures under public keys are checked by the package
+cryptography, which is loaded only if a public key is read; an HMAC is checked by Python's standard library.
 """
 from __future__ import annotations
 
@@ -19,7 +19,7 @@ Check = Callable[[bytes, bytes], bool]
 
 
 class _Mac(NamedTuple):
-    """The hash of an algorithm of shared keys, and how many bytes a key for it has at least (RFC 7518 section 3.2)."""
+    """The hash of an HMAC algorithm, and the least length of a key in bytes (RFC 7518 section 3.2)."""
 
     hash_name: str
     key_min: int
@@ -32,17 +32,17 @@ CURVES = {"P-256": ("ES256", 32), "P-384": ("ES384", 48), "P-521": ("ES512", 66)
 ED25519 = ("EdDSA", "Ed25519")
 RSA = ("PS256", "PS384", "PS512", "RS256", "RS384", "RS512")
 RSA_BITS_MIN = 2048
-# The algorithms of the public keys that are known here.
+# All algorithms with public keys that are implemented here.
 PUBLIC = (*(alg for alg, _ in CURVES.values()), *ED25519, *RSA)
 _LETTERS = re.compile(r"[A-Za-z0-9_-]+")
 
 
 class BadKey(ValueError):
-    """A JWK is malformed, too small or of a type that is not known here. No value of it is told."""
+    """A JWK is malformed, too small or of an unknown type. The message contains no value of the key."""
 
 
 class UnusedKey(BadKey):
-    """A JWK says of itself, by its `use`, `key_ops` or `alg`, that it checks none of the signatures that its type is for."""
+    """A JWK is not for signatures by any algorithm of its type, according to its own `use`, `key_ops` or `alg`."""
 
 
 class Key(NamedTuple):
@@ -53,7 +53,7 @@ class Key(NamedTuple):
 
 
 def is_shared(alg: object) -> bool:
-    """Whether this is the name of an algorithm of shared keys, also of one that is not known here."""
+    """Whether this is the name of an HMAC algorithm, known here or not."""
     return isinstance(alg, str) and alg.startswith("HS")
 
 
@@ -63,7 +63,7 @@ def decoded(text: str) -> bytes:
 
 
 def _of_type(jwk: Mapping[str, Any]) -> tuple[str, ...]:
-    """The algorithms of the type of a JWK, and none where it is not known here."""
+    """The algorithms for the type of a JWK; none if the type is unknown."""
     kind, curve = jwk.get("kty"), jwk.get("crv")
     if kind == "oct":
         return tuple(MACS)
@@ -75,12 +75,12 @@ def _of_type(jwk: Mapping[str, Any]) -> tuple[str, ...]:
 
 
 def _other_use(jwk: Mapping[str, Any]) -> str:
-    """Why a JWK checks no signature by what it says of itself, and nothing where it says no such thing."""
+    """Why a JWK is not for verifying, according to its own members; an empty string if it is."""
     operations = jwk.get("key_ops", ["verify"])
     if jwk.get("use", "sig") != "sig":
         return "its use is not sig"
     if not isinstance(operations, list) or "verify" not in operations:
-        return "its key_ops have no verify"
+        return "its key_ops do not include verify"
     return ""
 
 
@@ -90,16 +90,16 @@ def serves(jwk: Mapping[str, Any]) -> tuple[str, ...]:
 
 
 def key_of(jwk: object) -> Key:
-    """The key of a JWK. It serves at least one algorithm."""
+    """The key of a JWK, which serves at least one algorithm."""
     if not isinstance(jwk, dict):
-        raise BadKey("it is no object")
+        raise BadKey("it is not an object")
     if not isinstance(jwk.get("kty"), str):
-        raise BadKey('"kty" is missing or no text')
+        raise BadKey('"kty" is missing or not a string')
     if not _of_type(jwk):
         raise BadKey(_unknown_type(jwk["kty"]))
     names = serves(jwk)
     if not names:
-        raise UnusedKey(_other_use(jwk) or f"its alg is not one of its type, which serves {', '.join(_of_type(jwk))}")
+        raise UnusedKey(_other_use(jwk) or f"its alg does not fit its type, which is for {', '.join(_of_type(jwk))}")
     kid = jwk.get("kid")
     if kid is not None and not isinstance(kid, str):
         raise BadKey("kid is no text")
@@ -108,16 +108,16 @@ def key_of(jwk: object) -> Key:
 
 def _unknown_type(kind: str) -> str:
     if kind == "EC":
-        return f"its crv is none of {', '.join(CURVES)}"
-    return "its crv is not Ed25519" if kind == "OKP" else "its kty is none of oct, EC, OKP, RSA; capitals count"
+        return f"its crv is not one of {', '.join(CURVES)}"
+    return "its crv is not Ed25519" if kind == "OKP" else "its kty is not one of oct, EC, OKP, RSA (case matters)"
 
 
 def _mac_checks(jwk: Mapping[str, Any], names: tuple[str, ...]) -> dict[str, Check]:
-    """HMAC, by the algorithms for which the key is long enough."""
+    """The checks of HMACs, by the algorithms for which the key is long enough."""
     secret = _member(jwk, "k")
     checks = {name: _mac_check(secret, MACS[name].hash_name) for name in names if len(secret) >= MACS[name].key_min}
     if not checks:
-        raise BadKey(f"k has {len(secret)} bytes, of the at least {MACS[names[0]].key_min} that {names[0]} wants")
+        raise BadKey(f"k has {len(secret)} bytes, and {names[0]} needs at least {MACS[names[0]].key_min}")
     return checks
 
 
@@ -158,7 +158,7 @@ def _number(jwk: Mapping[str, Any], name: str) -> int:
 
 
 def find(keys: Iterable[Key], alg: str, kid: str | None) -> Check | None:
-    """The check under the first key that serves the algorithm, and has this name where one is asked for."""
+    """The check under the first key that serves the algorithm and, if a name is given, has this name."""
     for key in keys:
         if alg in key.checks and (kid is None or kid == key.kid):
             return key.checks[alg]

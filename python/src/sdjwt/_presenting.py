@@ -1,4 +1,4 @@
-"""Presenting under the keys of issuers, public ones and shared ones, with a signature of the holder made here or by a function.
+"""Presenting under the public and symmetric keys of issuers, with a signature of the holder that is made here or by a function.
 
 No rule of SD-JWT stands here. The library asks whether the issuer's signature is good, says what is to be signed, and makes the
 presentation of the signature; what is decided is only under which key the one is checked, and by which algorithm the other is made.

@@ -16,7 +16,7 @@ from sdjwt._keys import CURVES, ED25519, RSA, RSA_BITS_MIN, BadKey, Check
 _EC: dict[str, tuple[ec.EllipticCurve, hashes.HashAlgorithm]] = {
     "P-256": (ec.SECP256R1(), hashes.SHA256()), "P-384": (ec.SECP384R1(), hashes.SHA384()), "P-521": (ec.SECP521R1(), hashes.SHA512())}
 _HASHES: dict[str, hashes.HashAlgorithm] = {"256": hashes.SHA256(), "384": hashes.SHA384(), "512": hashes.SHA512()}
-# The field of Ed25519, and the y of each point of order 1, 2, 4 or 8, whatever its sign (RFC 8032 section 5.1).
+# The field of Ed25519, and the y of every point whose order divides 8 (RFC 8032 section 5.1).
 _FIELD = 2**255 - 19
 _OF_ORDER_8 = 0x7a03ac9277fdc74ec6cc392cfa53202a0f67100d760b3cba4fd84d3d706a17c7
 _OF_SMALL_ORDER = (0, 1, _FIELD - 1, _OF_ORDER_8, _FIELD - _OF_ORDER_8)
@@ -44,9 +44,9 @@ def ed25519(x: bytes) -> Check:
     """Ed25519, whose signatures have 64 bytes (RFC 8037 section 3.1)."""
     y = int.from_bytes(x, "little") % 2**255
     if y % _FIELD in _OF_SMALL_ORDER:
-        raise BadKey("x is a point of small order, under which anybody can sign")
+        raise BadKey("x is a point of small order, under which anyone can forge signatures")
     if y >= _FIELD:
-        raise BadKey("x is written as no point of Ed25519 is (RFC 8032 section 5.1.3)")
+        raise BadKey("x is not the encoding of a point (RFC 8032 section 5.1.3)")
     try:
         key = Ed25519PublicKey.from_public_bytes(x)
     except (ValueError, UnsupportedAlgorithm):

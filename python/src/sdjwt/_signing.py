@@ -23,8 +23,8 @@ if TYPE_CHECKING:
 
 # The signature of a text.
 SignFunction = Callable[[bytes], Union[bytes, bytearray, memoryview]]
-# How many bytes a signature has, by the algorithms of which each has as many (RFC 7518 section 3.4, RFC 8037 section 3.1). By
-# EdDSA it is one of Ed25519 or of Ed448.
+# The length of a signature in bytes, for the algorithms that fix it (RFC 7518 section 3.4, RFC 8037 section 3.1). EdDSA means
+# Ed25519 or Ed448.
 _LENGTHS = {"ES256": (64,), "ES384": (96,), "ES512": (132,), "Ed25519": (64,), "Ed448": (114,), "EdDSA": (64, 114)}
 
 
@@ -48,12 +48,12 @@ class Signer(NamedTuple):
         return status, said
 
     def signature(self, text: bytes) -> bytes:
-        """The signature of a text, of a length that one by this algorithm has."""
+        """The signature of a text, with a length that fits the algorithm."""
         made, name = signature_bytes(self.sign(text)), self.alg.decode()
         lengths = _LENGTHS.get(name, (len(made),))
         if len(made) not in lengths:
-            wanted = " or ".join(map(str, lengths)) + (", r and s, and no DER" if name in ("ES256", "ES384", "ES512") else "")
-            raise ValueError(f"sdjwt: what sign answered has {len(made)} bytes, and a signature by {name} has {wanted}")
+            wanted = " or ".join(map(str, lengths)) + (" (r and s, not DER)" if name in ("ES256", "ES384", "ES512") else "")
+            raise ValueError(f"sdjwt: sign returned {len(made)} bytes, but a signature by {name} has {wanted}")
         return made
 
 
