@@ -270,7 +270,7 @@ lacks() {
     rm -rf "$sources" && mkdir -p "$sources/release" && cp "$top/crates.txt" "$sources/" || return 1
     cp -R "$here/linked" "$here/linked.py" "$sources/release/" || return 1
     cp "$made/built/libsdjwt_c.a" "$sources/library.a" && (cd "$sources" && "$@") || return 1
-    if (cd "$sources" && python3 -B release/linked.py check "$kit" library.a) >"$made/answer"; then return 1; fi
+    if (cd "$sources" && python3 -B release/linked.py check "$kit" library.a) >"$made/answer" 2>&1; then return 1; fi
     grep -xF -- "$wanted" "$made/answer"
 }
 holds 'what is linked has its notice' python3 -B "$here/linked.py" check "$kit" "$made/built/libsdjwt_c.a"
@@ -283,6 +283,9 @@ holds 'a notice of what is not linked' lacks 'there is a notice of memchr, which
 holds 'code without notice' lacks 'library.a has code of hyper, of which there is no notice' \
     objcopy --add-symbol 'hyper::http1::read=.text:0,local' library.a
 holds 'a file without names' lacks 'library.a has no symbols that say what is linked' strip --strip-unneeded library.a
+holds 'a file that is no library' lacks 'library.a has no symbols that say what is linked' cp crates.txt library.a
+holds 'a crate that the kit does not have' lacks "$kit has no crate no_such: it is no kit, or another" \
+    sed -i 's/^sd_outside:/& no_such/' crates.txt
 holds 'another text of a licence' lacks 'the kit has another text of the licence of base64 0.23.1' \
     sed -i s/Alice/Alicia/ release/linked/base64.txt
 
