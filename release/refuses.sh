@@ -39,7 +39,7 @@ clone=$made/clone
 git clone -q "$top" "$clone"
 marked() {
     objcopy --remove-section .comment "$1" "$made/unmarked" &&
-        objcopy --add-section .comment="$made/mark" --add-symbol sdjwt::main=.text:0,local "$made/unmarked" "$2" &&
+        objcopy --add-section .comment="$made/mark" --add-symbol sdjwt::main=0,local "$made/unmarked" "$2" &&
         chmod 755 "$2"
 }
 counts_as_proved() {
@@ -71,9 +71,13 @@ END
 }
 # Runs a script of the clone with that rt, and with the variables before it.
 by_other() { (cd "$clone" && PATH=$made/rt:$PATH env "$@"); }
+# Its lines: the gate, what is built, and what makes the release, with the record of the gate.
+sed -n '/^## A release$/,$s/^       //p' "$top/CONTRIBUTING.md" >"$made/recipe"
+gate=$clone/$(sed -n '3s/^sh release\/check\.sh --gate \([^ ]*\) .*/\1/p' "$made/recipe")
 recipe() {
-    [ "$(by_other sh .ci/run | tail -n 1)" = '12 passed, 0 failed' ] && by_other sh prove.sh sdjwt &&
-        by_other sh prove.sh sdjwt_tools && by_other sh c/build.sh || return 1
+    [ "$(wc -l <"$made/recipe")" -eq 3 ] && said=$(by_other sh -eu -c "$(sed -n 1p "$made/recipe")") || return 1
+    [ "$(echo "$said" | tail -n 1)" = '12 passed, 0 failed' ] || return 1
+    by_other sh -eu -c "$(sed -n 2p "$made/recipe")" && [ -f "$gate" ] || return 1
     for file in .ci crates/sdjwt crates/sdjwt_tools crates/sdjwt_c c; do
         grep -x 'proved: yes' "$clone/$file/out/record" && grep -x 'clean: yes' "$clone/$file/out/record" || return 1
     done
@@ -84,7 +88,7 @@ holds 'the recipe of a release, there' recipe
 # A release, for which everything agrees.
 proved=$made/proved
 taken() {
-    sh "$clone/release/build.sh" "$version" --gate "$clone/.ci/out/record" --out "$proved" &&
+    sh "$clone/release/build.sh" "$version" --gate "$gate" --out "$proved" &&
         grep -x 'not proved: nothing' "$proved/PROVENANCE" &&
         grep -x 'gate (rt ci): 12 passed, 0 failed' "$proved/PROVENANCE" &&
         grep -x "commit: $(git -C "$clone" rev-parse HEAD)" "$proved/PROVENANCE" &&
@@ -134,7 +138,7 @@ faulty() {
     shift 2
     cp -p "$file" "$made/kept" && "$@" "$file" || return 1
     status=0
-    refuses "$wanted" "$version" --gate "$clone/.ci/out/record" || status=1
+    refuses "$wanted" "$version" --gate "$gate" || status=1
     rm -rf "$file" && cp -p "$made/kept" "$file" && return "$status"
 }
 with_a_byte_more() { printf x >>"$1"; }
@@ -172,7 +176,7 @@ holds 'refuses the record of another program' faulty 'its SHA-256 is' crates/sdj
 
 # Records of a gate: of another commit, of something else, of what did not pass.
 gate_record() {
-    python3 -B - "$clone/release" "$clone/.ci/out/record" "$made/gate" "$@" <<'END'
+    python3 -B - "$clone/release" "$gate" "$made/gate" "$@" <<'END'
 import sys
 from pathlib import Path
 sys.path.insert(0, sys.argv[1])
@@ -270,7 +274,7 @@ lacks() {
     rm -rf "$sources" && mkdir -p "$sources/release" && cp "$top/crates.txt" "$sources/" || return 1
     cp -R "$here/linked" "$here/linked.py" "$sources/release/" || return 1
     cp "$made/built/libsdjwt_c.a" "$sources/library.a" && (cd "$sources" && "$@") || return 1
-    if (cd "$sources" && python3 -B release/linked.py check "$kit" library.a) >"$made/answer"; then return 1; fi
+    if (cd "$sources" && python3 -B release/linked.py check "$kit" library.a) >"$made/answer" 2>&1; then return 1; fi
     grep -xF -- "$wanted" "$made/answer"
 }
 holds 'what is linked has its notice' python3 -B "$here/linked.py" check "$kit" "$made/built/libsdjwt_c.a"
@@ -281,8 +285,11 @@ holds 'a crate of the kit that is named anew' lacks 'there is no notice of hex, 
 holds 'a notice of what is not linked' lacks 'there is a notice of memchr, which is not linked' \
     sed -i 's/ memchr//' crates.txt
 holds 'code without notice' lacks 'library.a has code of hyper, of which there is no notice' \
-    objcopy --add-symbol 'hyper::http1::read=.text:0,local' library.a
+    objcopy --add-symbol hyper::http1::read=0,local library.a
 holds 'a file without names' lacks 'library.a has no symbols that say what is linked' strip --strip-unneeded library.a
+holds 'a file that is no library' lacks 'library.a has no symbols that say what is linked' cp crates.txt library.a
+holds 'a crate that the kit does not have' lacks "$kit has no crate no_such: it is no kit, or another" \
+    sed -i 's/^sd_outside:/& no_such/' crates.txt
 holds 'another text of a licence' lacks 'the kit has another text of the licence of base64 0.23.1' \
     sed -i s/Alice/Alicia/ release/linked/base64.txt
 
