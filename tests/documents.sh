@@ -148,7 +148,13 @@ if has openssl; then holds recipes; else skip 'recipes of keys (no openssl)'; fi
 holds sh examples/refusals.sh
 if has python3; then
     holds python3 examples/walk.py sdjwt
-    holds python3 vectors/run.py sdjwt
+    # with a clock that stands, for the vectors that name their moment
+    if has cc && cc -shared -fPIC -O1 -o "$made/clock.so" tests/still_clock.c 2>"$made/said"; then
+        holds python3 vectors/run.py sdjwt --at "env LD_PRELOAD=$made/clock.so MOMENT={moment}"
+    else
+        holds python3 vectors/run.py sdjwt
+        skip 'the vectors that name their moment, since there is no C compiler that builds still_clock.c'
+    fi
 fi
 
 # sdjwt_tools

@@ -5,8 +5,9 @@
 
 Standard output that nobody reads any more, a full disk, input that is none and input that fails in its middle, and each
 request for memory refused in turn: the status and the line are those of the manual, and what was written before is a
-front of all verdicts. The verdicts of a piece of the input go out when it has come, by one write. Refusing memory needs
-a C compiler; without one that part is skipped. It stands beside the gate and proves nothing.
+front of all verdicts. The verdicts of a piece of the input go out when it has come, by one write, and are those of the
+time that it is. Refusing memory needs a C compiler; without one that part is skipped. It stands beside the gate and
+proves nothing.
 """
 import os
 import shutil
@@ -15,9 +16,13 @@ import struct
 import subprocess
 import sys
 import tempfile
+import time
 from pathlib import Path
 
 HERE = Path(__file__).resolve().parent
+sys.path.insert(0, str(HERE.parent / "vectors"))
+import clock  # noqa: E402
+
 CASES = HERE.parent / "examples" / "refusals"
 MOST = "1000000000"
 POLICY = CASES / "policy.json"
@@ -115,6 +120,19 @@ def verdicts_go_out(program, whole):
     ours.close()
 
 
+def judges_now(program, made):
+    """Tokens whose verdict tells what time the feed takes it to be."""
+    for vector in clock.vectors(int(time.time())):
+        if [run["words"][0] for run in vector["runs"]] != ["verify"]:
+            continue
+        policy = made / "policy.json"
+        policy.write_text(vector["files"]["p"], encoding="utf-8")
+        due = f"{vector['line']}\n" if vector["line"] else f"accepted {vector['output']}"
+        done = subprocess.run([program, "feed", policy, MOST], input=vector["files"]["t"].encode(), capture_output=True,
+                              timeout=60)
+        expect(vector["about"], (done.returncode, done.stdout), (0, f"{due}lines 1\n".encode()))
+
+
 def memory_is_refused(program, whole, made):
     compiler = shutil.which("cc")
     library = made / "refuse.so"
@@ -153,6 +171,7 @@ def main():
         output_fails(program)
         input_fails(program, whole)
         verdicts_go_out(program, whole)
+        judges_now(program, Path(made))
         memory_is_refused(program, whole, Path(made))
     print(f"feed.py: {wrong} differ" if wrong else "feed.py: all as it should be")
     return 1 if wrong else 0
