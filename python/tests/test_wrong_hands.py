@@ -57,16 +57,22 @@ def test_a_seed_is_bytes(seed):
     assert "seed" in message(TypeError, sdjwt.issue, ORDER, seed)
 
 
-@each("seed", [b"", b"x" * 31, bytearray(31), memoryview(bytes(31))], ids=repr)
-def test_a_seed_of_fewer_than_32_bytes_is_a_value_error(seed):
-    with pytest.raises(ValueError) as caught:
-        sdjwt.issue(ORDER, seed)
-    assert (caught.value.line, caught.value.input) == ("unreadable 2 short", 2)
-    assert str(len(seed)) in caught.value.detail
+# the last two differ behind byte 32 alone, where nothing would count
+@each("seed", [b"", b"x" * 31, b"x" * 33, bytes(64), bytearray(31), bytearray(33), memoryview(bytes(31)), memoryview(bytes(40)),
+               b"the tickets of the year 2026|token 1", b"the tickets of the year 2026|token 2"], ids=bytes)
+def test_a_seed_has_just_32_bytes(seed):
+    for more in ({}, {"sign": never, "alg": "ES256"}):
+        order = {name: value for name, value in ORDER.items() if name != "key" or not more}
+        said = message(ValueError, sdjwt.issue, order, seed, **more)
+        assert "seed" in said and f" {len(seed)} bytes" in said and " 32" in said
+
+
+def never(text):
+    raise AssertionError("it is not asked")
 
 
 def test_seeds_of_each_kind_of_bytes():
-    for seed in (bytearray(32), memoryview(bytes(32)), bytes(40), memoryview(bytes(80))[::2]):
+    for seed in (bytearray(32), memoryview(bytes(32)), memoryview(bytes(64))[::2], memoryview(bytearray(32)).cast("I")):
         assert sdjwt.issue(ORDER, seed) == sdjwt.issue(ORDER, bytes(32))
 
 

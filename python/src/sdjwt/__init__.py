@@ -34,19 +34,20 @@ from sdjwt._built import PROVED as proved
 from sdjwt._built import VERSION as __version__
 from sdjwt._confirmed import refuse_secret_key
 from sdjwt._detail import ASKED, UNSIGNED
-from sdjwt._errors import NoCryptography, OutOfMemory, Refused, SdJwtError, TooLong, Unreadable, unreadable
+from sdjwt._errors import NoCryptography, OutOfMemory, OutOfStack, Refused, SdJwtError, TooLong, Unreadable, unreadable
 from sdjwt._given import MOST, file_bytes, held_bytes, moment, seed_bytes, token_bytes
 from sdjwt._key_sets import PrivateKeyWarning, SkippedKey
 from sdjwt._presenting import presenting_of
 from sdjwt._signing import SignFunction, signer_of
+from sdjwt._stack import need_stack
 
 if TYPE_CHECKING:
     from sdjwt._signing import PrivateKey
 
 __all__ = [
-    "MOST", "NoCryptography", "OutOfMemory", "Picked", "Policy", "PrivateKeyWarning", "Question", "Refused", "SdJwtError",
-    "SkippedKey", "TooLong", "Unreadable", "__version__", "audit", "convert", "issue", "present", "proved", "show", "split",
-    "verify", "wallet",
+    "MOST", "NoCryptography", "OutOfMemory", "OutOfStack", "Picked", "Policy", "PrivateKeyWarning", "Question", "Refused",
+    "SdJwtError", "SkippedKey", "TooLong", "Unreadable", "__version__", "audit", "convert", "issue", "present", "proved",
+    "show", "split", "verify", "wallet",
 ]
 
 Bytes = Union[bytes, bytearray, memoryview]
@@ -79,9 +80,9 @@ def issue(
 ) -> str:
     """The token of an order, in its compact form.
 
-    The salts of the hidden claims come from the seed, 32 bytes or more, which are drawn where none is given. Whoever knows
-    the seed can guess what is hidden, so give one only to get the same token again, as in a test. A shorter one is
-    `Unreadable`, which is a ValueError.
+    The salts of the hidden claims come from the seed, which is 32 random bytes if you give none. Anyone who knows the seed
+    can guess what is hidden, so give one only to get the same token again, as in a test. A seed of another length is a
+    ValueError.
 
     >>> key = "dGhlIHRpY2tldCBvZmZpY2Uga2V5LCBub3QgeW91cnM"
     >>> token = issue({"payload": {"name": "Ada"}, "hide": ["/name"], "key": key})
@@ -105,6 +106,7 @@ def issue(
     >>> show(token)["header"]
     {'alg': 'ES256', 'kid': 'k1'}
     """
+    need_stack()
     ordered = file_bytes(order, "order")
     refuse_secret_key(ordered)
     salted = secrets.token_bytes(32) if seed is None else seed_bytes(seed)
@@ -143,6 +145,7 @@ def present(
     >>> show(shown)["binding"] is None, len(show(shown)["disclosures"])
     (False, 1)
     """
+    need_stack()
     ordered = file_bytes(order, "order")
     given, at = token_bytes(token, most), moment(now)
     presenting = presenting_of(ordered, check, sign, alg)
@@ -172,6 +175,7 @@ def verify(
     25 expired None
     The moment of the claim `exp` has come: the token is valid no longer.
     """
+    need_stack()
     asked = file_bytes(policy, "policy")
     if asking_of(asked, check) is not None:
         return Policy(asked, check=check).verify(token, now, most=most)
@@ -202,6 +206,7 @@ class Policy:
     __slots__ = ("_asking", "_handles", "_text")
 
     def __init__(self, policy: Json, *, check: CheckFunction | None = None) -> None:
+        need_stack()
         text = file_bytes(policy, "policy")
         self._asking: Asking | None = asking_of(text, check)
         self._text = text if self._asking is None else self._asking.file
@@ -217,6 +222,7 @@ class Policy:
 
     def verify(self, token: Json, now: float | None = None, *, most: int = MOST) -> dict[str, Any]:
         """The claims of a token that is accepted."""
+        need_stack()
         # what needs no look at the types stands here, since this call is to be fast
         given = token if type(token) is bytes and type(most) is int and len(token) <= most else token_bytes(token, most)
         at = max(0, int(_time())) if now is None else moment(now)
@@ -228,7 +234,8 @@ class Policy:
         try:
             status, said = handle.verify(given, at) if asking is None else asking.verify(handle, given, at)
         finally:
-            handles.append(handle)
+            if len(handles) < _library.KEPT:
+                handles.append(handle)
         if status != _DONE:
             _answer(status, said)
         claims: dict[str, Any] = _read_json(said.decode())[0]
@@ -261,6 +268,7 @@ def show(token: Json, *, most: int = MOST) -> dict[str, Any]:
     >>> [(disclosure["name"], disclosure["value"]) for disclosure in inside["disclosures"]]
     [('name', 'Ada')]
     """
+    need_stack()
     inside: dict[str, Any] = {"disclosures": [], "binding": None}
     for line in _without_end(_answer(*_library.call("show", token_bytes(token, most)))).split("\n"):
         word, said = line.split(" ", 1)
@@ -289,6 +297,7 @@ def split(token: Json, *, most: int = MOST) -> dict[str, Any]:
     >>> token == f"{parts['protected']}.{parts['payload']}.{parts['signature']}~{parts['disclosures'][0]}~"
     True
     """
+    need_stack()
     parts: dict[str, Any] = {"disclosures": [], "binding": None}
     for line in _without_end(_answer(*_library.call("split", token_bytes(token, most)))).split("\n"):
         word, said = line.split(" ", 1)
@@ -309,6 +318,7 @@ def convert(form: Literal["compact", "flat", "general"], token: Json, *, most: i
     >>> convert("compact", flat) == token
     True
     """
+    need_stack()
     if not isinstance(form, str):
         raise TypeError(f"sdjwt: form is of type {type(form).__name__}, and has to be a str")
     if form not in _FORMS:
@@ -330,6 +340,7 @@ def audit(order: Json, token: Json, *, most: int = MOST) -> None:
     Traceback (most recent call last):
     sdjwt._errors.Refused: refused 83 payloadDiffers
     """
+    need_stack()
     ordered = file_bytes(order, "order")
     _answer(*_library.call("audit", ordered, token_bytes(token, most)), ("order", ordered))
 
@@ -358,6 +369,7 @@ def wallet(query: Json, tokens: Iterable[Json], *, most: int = MOST) -> Picked:
     Traceback (most recent call last):
     sdjwt._errors.Refused: refused 77 noCredentialAnswers
     """
+    need_stack()
     asked = file_bytes(query, "query")
     called = _library.call_wallet(asked, held_bytes(tokens, most))
     number, token = _without_end(_answer(*called, ("query", asked))).split("\n", 1)

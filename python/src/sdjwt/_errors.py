@@ -138,3 +138,7 @@ class NoCryptography(SdJwtError, ImportError):
 
 class OutOfMemory(MemoryError):
     """The library found no memory for the call."""
+
+
+class OutOfStack(RuntimeError):
+    """The thread has less of its stack left than a call may need, as one that was given a small one. The library was not asked."""

@@ -15,6 +15,8 @@ from sdjwt._errors import TooLong
 
 # The greatest length of a token in bytes, where the caller gives none.
 MOST = 1_048_576
+# The length of a seed in bytes.
+SEED_LENGTH = 32
 
 
 def file_bytes(given: object, name: str) -> bytes:
@@ -75,8 +77,11 @@ def held_bytes(tokens: object, most: int) -> list[bytes]:
 
 
 def seed_bytes(given: object) -> bytes:
-    """A seed. That it is long enough is for the library to say."""
-    return _plain_bytes(given, "seed", "bytes")
+    """A seed. The library would read its first 32 bytes and pass over the rest, so two long seeds could give the same salts."""
+    seed = _plain_bytes(given, "seed", "bytes")
+    if len(seed) != SEED_LENGTH:
+        raise ValueError(f"sdjwt: seed has {len(seed)} bytes, and has to have {SEED_LENGTH}")
+    return seed
 
 
 def alg_bytes(given: object) -> bytes:

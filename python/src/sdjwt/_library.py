@@ -14,8 +14,15 @@ UNSAID, UNKNOWN, BAD, GOOD = 0, 1, 2, 3
 _ABI_VERSION = 1
 # Where the library lies that is loaded.
 PATH = os.environ.get("SDJWT_LIBRARY") or str(Path(__file__).resolve().parent / "libsdjwt.so")
+# What a room for answers has at first, in bytes. Most answers are shorter.
 _FIRST_ROOM = 4096
-
+# The largest room that is kept for the next call. A longer answer has one for itself, which goes with it, so that neither this
+# much memory nor the claims in it stay. It is not cleared: the same claims were in freed memory of Python and of C before.
+_ROOM_MOST = 65_536
+# How many times as long as what is given an answer may be, where it is not seldom longer than that and 256 bytes.
+_TIMES = {"issue": 4, "issue_ask": 4, "issue_sign": 4, "show": 2, "split": 2, "convert": 2}
+# How many rooms a thread keeps, and how many handles a policy, that no call uses. More are made where calls come between calls.
+KEPT = 8
 
 # The most tokens that a wallet may have.
 TOKENS = 64
@@ -65,16 +72,13 @@ _FUNCTIONS = {name: getattr(_LIBRARY, "sdjwt_" + name) for name in _CALLS}
 
 
 class _Room:
-    """A buffer for answers, which grows to the longest. What ctypes passes on of it is made once."""
+    """A buffer for one answer at a time, of a size that stays. What ctypes passes on of it is made once."""
 
     __slots__ = ("at", "at_len", "buffer", "len", "size")
 
-    def __init__(self) -> None:
+    def __init__(self, size: int = _FIRST_ROOM) -> None:
         self.len = c_size_t()
         self.at_len = c_void_p(addressof(self.len))
-        self.grow(_FIRST_ROOM)
-
-    def grow(self, size: int) -> None:
         self.buffer = create_string_buffer(size)
         self.at = c_void_p(addressof(self.buffer))
         self.size = c_size_t(size)
@@ -83,12 +87,33 @@ class _Room:
         # a slice of characters is bytes, which mypy does not know
         return self.buffer[: self.len.value]  # type: ignore[return-value]
 
+    def is_kept(self) -> bool:
+        return self.size.value <= _ROOM_MOST
+
 
 class _Rooms(threading.local):
-    """The room of each thread."""
+    """The rooms of a thread that no call uses.
+
+    A signal handler, a finalizer and the like may call the package between any two bytecodes of it. So a room is out of this
+    list from before a call writes into it until what was written is copied, and what comes between takes another. Where a
+    call ends by what a handler raised, its room does not come back, and is garbage.
+    """
 
     def __init__(self) -> None:
-        self.room = _Room()
+        self.free: list[_Room] = []
+
+    def take(self, likely: int) -> _Room:
+        """A room, of more than this where it would not be kept, so that a long answer seldom has to be made twice."""
+        if likely > _ROOM_MOST:
+            return _Room(likely + 256)
+        try:
+            return self.free.pop()
+        except IndexError:
+            return _Room()
+
+    def give(self, room: _Room) -> None:
+        if room.is_kept() and len(self.free) < KEPT:
+            self.free.append(room)
 
 
 _ROOMS = _Rooms()
@@ -98,16 +123,20 @@ def call(name: str, *words: Any) -> tuple[int, bytes]:
     """The status of a call, and its answer or line. Bytes and arrays are passed with their length."""
     function = _FUNCTIONS[name]
     passed: list[Any] = []
+    given = 0
     for word in words:
         passed.append(word)
         if isinstance(word, (bytes, ctypes.Array)):
             passed.append(len(word))
-    room = _ROOMS.room
+            given += len(word)
+    room = _ROOMS.take(given * _TIMES.get(name, 1))
     status = function(*passed, room.at, room.size, room.at_len)
     if status == UNWRITTEN:
-        room.grow(room.len.value)
+        room = _Room(room.len.value)
         status = function(*passed, room.at, room.size, room.at_len)
-    return status, room.text()
+    said = room.text()
+    _ROOMS.give(room)
+    return status, said
 
 
 def call_wallet(query: bytes, tokens: list[bytes]) -> tuple[int, bytes]:
@@ -137,22 +166,31 @@ class Handle:
 
     def verify(self, token: bytes, now: int) -> tuple[int, bytes]:
         """The status, and the claims or the line."""
-        room = self.room
-        status: int = _VERIFY(self.at, token, len(token), now, room.at, room.size, room.at_len)
+        length = len(token)
+        room = self.room if length <= _ROOM_MOST else _Room(length + 256)
+        status: int = _VERIFY(self.at, token, length, now, room.at, room.size, room.at_len)
         if status == UNWRITTEN:
-            room.grow(room.len.value)
-            status = _VERIFY(self.at, token, len(token), now, room.at, room.size, room.at_len)
+            room = self._larger(room)
+            status = _VERIFY(self.at, token, length, now, room.at, room.size, room.at_len)
         return status, room.buffer[: room.len.value]  # type: ignore[return-value]
 
     def judge(self, algs: bytes, token: bytes, now: int, issuer: int, holder: int) -> tuple[int, bytes]:
         """The status, and the claims, a question or the line, after what was said of the signatures."""
-        room = self.room
-        asked = (self.at, algs, len(algs), token, len(token), now, issuer, holder)
+        length = len(token)
+        room = self.room if length <= _ROOM_MOST else _Room(length + 256)
+        asked = (self.at, algs, len(algs), token, length, now, issuer, holder)
         status: int = _JUDGE(*asked, room.at, room.size, room.at_len)
         if status == UNWRITTEN:
-            room.grow(room.len.value)
+            room = self._larger(room)
             status = _JUDGE(*asked, room.at, room.size, room.at_len)
-        return status, room.buffer[: room.len.value]  # type: ignore[return-value]
+        return status, room.text()
+
+    def _larger(self, room: _Room) -> _Room:
+        """A room for what did not fit into this one. It stays the handle's, unless it is too large to be kept."""
+        larger = _Room(room.len.value)
+        if larger.is_kept():
+            self.room = larger
+        return larger
 
 
 def new_handle(policy: bytes) -> tuple[int, bytes, Handle]:
