@@ -6,15 +6,21 @@
  * policy or query, then its tokens; for ask and sign the name of the algorithm, the seed and the signature; for judge the
  * algorithms, the token and two words on signatures, for step one word, which are lengths; for sent the holder's
  * signature. Each comes to the call in memory of its own and of just its length. What the header promises of an answer is
- * checked: its status, its length, the bytes behind it, and that a call with just as much room answers the same.
+ * checked: its status, its length, the bytes behind it, and that a call with just as much room answers the same. A call
+ * may take a second of the processor, and at one time 64 MiB of memory. Two calls take more, by which c/fuzz/run.sh sees
+ * that this is told: slow and large.
  */
 #include "sdjwt.h"
 
+#include <sanitizer/allocator_interface.h>
 #include <stdio.h>
 #include <stdlib.h>
 #include <string.h>
+#include <time.h>
 
 enum { PARTS = 1 + SDJWT_TOKENS, SPARE = 64, NOW = 1800000000 };
+static const double MOST_SECONDS = 1;
+static const size_t MOST_MEMORY = 64 << 20;
 
 typedef struct {
     uint8_t *bytes;
@@ -162,6 +168,45 @@ static sdjwt_status call_policy(const input *given, uint8_t *out, size_t room, s
     return status;
 }
 
+/* The seconds that this thread has had of the processor, so that a busy machine fails no call. */
+static double seconds(void) {
+    struct timespec used;
+    clock_gettime(CLOCK_THREAD_CPUTIME_ID, &used);
+    return (double)used.tv_sec + (double)used.tv_nsec / 1e9;
+}
+
+/* The bytes that are allocated, and the most since a call began. */
+static size_t held, most_held;
+
+static void count_allocated(const volatile void *piece, size_t size) {
+    (void)piece;
+    held += size;
+    if (held > most_held) {
+        most_held = held;
+    }
+}
+
+static void count_freed(const volatile void *piece) {
+    held -= piece == NULL ? 0 : __sanitizer_get_allocated_size(piece);
+}
+
+static sdjwt_status call_slow(const input *given, uint8_t *out, size_t room, size_t *len) {
+    (void)given, (void)out, (void)room, (void)len;
+    double began = seconds();
+    while (seconds() - began < 1.01 * MOST_SECONDS) {
+    }
+    return SDJWT_USAGE;
+}
+
+static sdjwt_status call_large(const input *given, uint8_t *out, size_t room, size_t *len) {
+    (void)given, (void)out, (void)room, (void)len;
+    free(memset(malloc(MOST_MEMORY / 2), 1, 1));
+    char *half = memset(malloc(MOST_MEMORY / 2), 1, 1), *other = memset(malloc(MOST_MEMORY / 2 + 1), 1, 1);
+    free(half);
+    free(other);
+    return SDJWT_USAGE;
+}
+
 static const struct {
     const char *name;
     call *made;
@@ -169,6 +214,7 @@ static const struct {
     {"verify", call_verify}, {"judge", call_judge}, {"present", call_present}, {"issue", call_issue}, {"ask", call_ask},
     {"sign", call_sign}, {"step", call_step}, {"sent", call_sent}, {"show", call_show}, {"split", call_split},
     {"convert", call_convert}, {"audit", call_audit}, {"wallet", call_wallet}, {"policy", call_policy},
+    {"slow", call_slow}, {"large", call_large},
 };
 
 static call *chosen;
@@ -186,6 +232,7 @@ int LLVMFuzzerInitialize(int *argc, char ***argv) {
         }
     }
     check(chosen != NULL, "SDJWT_FUZZ names no call");
+    check(__sanitizer_install_malloc_and_free_hooks(count_allocated, count_freed) > 0, "memory can't be counted");
     return 0;
 }
 
@@ -200,7 +247,11 @@ static int is_written(sdjwt_status status) {
 static sdjwt_status with_room(const input *given, size_t room, uint8_t **out, size_t *len) {
     *out = malloc(room + SPARE);
     memset(*out, 0xa5, room + SPARE);
+    size_t before = most_held = held;
+    double began = seconds();
     sdjwt_status status = chosen(given, *out, room, len);
+    check(seconds() - began <= MOST_SECONDS, "a call takes more than a second of the processor");
+    check(most_held - before <= MOST_MEMORY, "a call takes more than 64 MiB of memory");
     size_t written = 0;
     if (is_written(status)) {
         check(*len <= room, "an answer is longer than its room");

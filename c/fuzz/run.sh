@@ -8,8 +8,11 @@
 # sees which code an input reaches; so it finds faults of the code and of what it stands on, and proves nothing. It
 # begins with the inputs of corpus.py, and what is found is kept in c/out/fuzz/CALL, where the next run goes on; with
 # --keep those inputs that reach other code than these, the smallest that do, go into c/fuzz/found.tar.xz. An input that
-# fails is left beside this corpus, and the status is not 0. A call may take twenty seconds and 2 GB of memory. It needs
-# a Rattle kit, python3, and clang with its libFuzzer.
+# fails is left beside this corpus, and the status is not 0.
+#
+# A call fails if it takes more than a second of the processor, or more than 64 MiB of memory at one time: fuzz.c
+# measures both. An input fails after twenty seconds by the clock, which a busy machine may need, and the whole process,
+# which keeps all inputs and what was freed, at 2 GB. It needs a Rattle kit, python3, and clang with its libFuzzer.
 set -eu
 refuse() {
     echo "run.sh: $1" >&2
@@ -56,6 +59,14 @@ objcopy --wildcard --keep-global-symbol='sdjwt_*' "$made/sdjwt.o"
     "$kit/c/liblibc_c.a" -o "$made/fuzz"
 
 python3 "$here/corpus.py" "$made/corpus"
+# whether a call that takes too much is told
+: >"$made/nothing"
+for call in slow large; do
+    if SDJWT_FUZZ=$call "$made/fuzz" "$made/nothing" >"$made/said" 2>&1 ||
+        ! grep -q '^fuzz.c: a call takes more' "$made/said"; then
+        refuse "a call that takes too much is not told: $call"
+    fi
+done
 for call; do
     mkdir -p "$kept/$call"
     echo "run.sh: $call, $seconds seconds"
