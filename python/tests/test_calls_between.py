@@ -303,14 +303,26 @@ def test_what_a_function_raises_leaves_the_policy_as_it_was():
     assert policy._handles == before
 
 
-def test_few_rooms_are_kept():
-    rooms = _library._Rooms()
-    taken = [rooms.take(0) for _ in range(50)]
-    assert len({id(room) for room in taken}) == 50
-    for room in taken:
-        rooms.give(room)
-    assert len(rooms.free) <= 8
-    assert rooms.take(0) in taken
+def test_many_nested_calls_leave_few_rooms():
+    """Each call of the library is interrupted by one more, where its room is not back yet."""
+    depth, most, text = 0, 0, _library._Room.text
+
+    def interrupted(room):
+        nonlocal depth, most
+        depth, most = depth + 1, max(most, depth + 1)
+        said = text(room)
+        if most < 50:
+            assert sdjwt.show(tokens[depth % 2]) == shown[depth % 2]
+        depth -= 1
+        return said
+
+    tokens = [sdjwt.issue({"payload": {"n": n}, "key": KEY}) for n in range(2)]
+    shown = [sdjwt.show(token) for token in tokens]
+    with pytest.MonkeyPatch.context() as patched:
+        patched.setattr(_library._Room, "text", interrupted)
+        assert sdjwt.show(tokens[0]) == shown[0]
+    assert (depth, most) == (0, 50)
+    assert len(_library._ROOMS.free) <= 8
 
 
 def test_what_a_large_answer_took_is_let_go():

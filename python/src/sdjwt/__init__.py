@@ -53,7 +53,7 @@ __all__ = [
 Bytes = Union[bytes, bytearray, memoryview]
 Json = Union[Mapping[str, Any], str, Bytes]
 _FORMS = {"compact": 0, "flat": 1, "general": 2}
-_DONE = _library.DONE
+_DONE, _KEPT = _library.DONE, _library.KEPT
 
 
 def _answer(status: int, said: bytes, *files: tuple[str, bytes]) -> bytes:
@@ -234,7 +234,7 @@ class Policy:
         try:
             status, said = handle.verify(given, at) if asking is None else asking.verify(handle, given, at)
         finally:
-            if len(handles) < _library.KEPT:
+            if len(handles) < _KEPT:
                 handles.append(handle)
         if status != _DONE:
             _answer(status, said)

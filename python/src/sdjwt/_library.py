@@ -74,7 +74,7 @@ _FUNCTIONS = {name: getattr(_LIBRARY, "sdjwt_" + name) for name in _CALLS}
 class _Room:
     """A buffer for one answer at a time, of a size that stays. What ctypes passes on of it is made once."""
 
-    __slots__ = ("at", "at_len", "buffer", "len", "size")
+    __slots__ = ("at", "at_len", "buffer", "is_kept", "len", "size")
 
     def __init__(self, size: int = _FIRST_ROOM) -> None:
         self.len = c_size_t()
@@ -82,13 +82,11 @@ class _Room:
         self.buffer = create_string_buffer(size)
         self.at = c_void_p(addressof(self.buffer))
         self.size = c_size_t(size)
+        self.is_kept = size <= _ROOM_MOST
 
     def text(self) -> bytes:
         # a slice of characters is bytes, which mypy does not know
         return self.buffer[: self.len.value]  # type: ignore[return-value]
-
-    def is_kept(self) -> bool:
-        return self.size.value <= _ROOM_MOST
 
 
 class _Rooms(threading.local):
@@ -102,21 +100,18 @@ class _Rooms(threading.local):
     def __init__(self) -> None:
         self.free: list[_Room] = []
 
-    def take(self, likely: int) -> _Room:
-        """A room, of more than this where it would not be kept, so that a long answer seldom has to be made twice."""
-        if likely > _ROOM_MOST:
-            return _Room(likely + 256)
-        try:
-            return self.free.pop()
-        except IndexError:
-            return _Room()
-
-    def give(self, room: _Room) -> None:
-        if room.is_kept() and len(self.free) < KEPT:
-            self.free.append(room)
-
 
 _ROOMS = _Rooms()
+
+
+def _taken(free: list[_Room], likely: int) -> _Room:
+    """A room, of more than this where it would not be kept, so that a long answer seldom has to be made twice."""
+    if likely > _ROOM_MOST:
+        return _Room(likely + 256)
+    try:
+        return free.pop()
+    except IndexError:
+        return _Room()
 
 
 def call(name: str, *words: Any) -> tuple[int, bytes]:
@@ -129,13 +124,15 @@ def call(name: str, *words: Any) -> tuple[int, bytes]:
         if isinstance(word, (bytes, ctypes.Array)):
             passed.append(len(word))
             given += len(word)
-    room = _ROOMS.take(given * _TIMES.get(name, 1))
+    free = _ROOMS.free
+    room = _taken(free, given * _TIMES.get(name, 1))
     status = function(*passed, room.at, room.size, room.at_len)
     if status == UNWRITTEN:
         room = _Room(room.len.value)
         status = function(*passed, room.at, room.size, room.at_len)
     said = room.text()
-    _ROOMS.give(room)
+    if room.is_kept and len(free) < KEPT:
+        free.append(room)
     return status, said
 
 
@@ -188,7 +185,7 @@ class Handle:
     def _larger(self, room: _Room) -> _Room:
         """A room for what did not fit into this one. It stays the handle's, unless it is too large to be kept."""
         larger = _Room(room.len.value)
-        if larger.is_kept():
+        if larger.is_kept:
             self.room = larger
         return larger
 
