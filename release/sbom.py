@@ -10,8 +10,8 @@ from pathlib import Path
 
 WANTED = {"packages": ("name", "SPDXID", "downloadLocation", "licenseDeclared", "licenseConcluded", "copyrightText"),
           "files": ("fileName", "SPDXID", "checksums")}
-# What has to be linked into something, by the symbols that it leaves.
-LINKED = {"base64", "fast-float2", "indexmap", "itoa", "memchr", "rand_chacha", "sha2", "Rattle kit"}
+# What leaves names where it is linked. The code of others may become part of its callers, as that of itoa does.
+LINKED = {"base64", "indexmap", "rand_chacha", "sha2", "Rattle kit"}
 
 
 def faults(folder):
