@@ -53,10 +53,10 @@ in_cases() {
         s/^unread .*/3 unread/p
         s/^usage$/2 usage/p
         s/^unwritten$/4 unwritten/p'
-    # what no file gives, or another program
+    # what no file gives, or another program, or a library
     printf '%s\n' '60 digestClash' '5 memory' '77 noCredentialAnswers' '80 orderRefused' '81 signedPartDiffers' \
         '82 writtenFormDiffers' '83 payloadDiffers' '84 digestsDiffer' '85 decoysDiffer' '86 sdOrderDiffers' '87 feedTooLong' \
-        '6 wrong equal'
+        '6 wrong equal' '6 missing algs' '8 notAsked'
 }
 
 on_page() {
@@ -68,7 +68,8 @@ on_page() {
         s/^- \*\*usage\*\*: .*/2 usage/p
         s/^- \*\*unread\*\*: .*/3 unread/p
         s/^- \*\*unwritten\*\*: .*/4 unwritten/p
-        s/^- \*\*memory\*\*: .*/5 memory/p' ../docs/REFUSALS.md
+        s/^- \*\*memory\*\*: .*/5 memory/p
+        s/^- \*\*notAsked\*\*: .*/8 notAsked/p' ../docs/REFUSALS.md
 }
 
 # The numbers and the names of a table that gives both to each constructor.
@@ -84,12 +85,11 @@ words_of() {
         done
 }
 
-# The code that reads policies, orders, present orders and queries.
+# The code that reads policies, orders, present orders and queries. The programs read no present order without keys, but
+# the libraries do.
 readers() {
     cat "$top/crates/verifier_core/src/policy.rt" "$top/crates/issuer_core/src/order_file.rt" \
-        "$top/crates/wallet_core/src/query_file.rt"
-    # the programs read no present order without keys
-    sed '/^fn algs_member/,/^}/d' "$top/crates/holder_core/src/present_file.rt"
+        "$top/crates/wallet_core/src/query_file.rt" "$top/crates/holder_core/src/present_file.rt"
 }
 
 in_code() {
@@ -97,6 +97,7 @@ in_code() {
     numbered "$specs/refusals/specs/Condition.antt" "$specs/refusals/specs/Refusal.antt"
     sed -n 's/^reason [A-Za-z]* = codes "\([A-Za-z]*\)"$/6 \1/p; s/^short_seed .*unreadable 2 \([a-z]*\).*/6 \1/p' \
         "$specs/cli_parts/specs/Lines.antt"
+    sed -n 's/^unasked_line = line (codes "\([A-Za-z]*\)")$/8 \1/p' "$specs/sdjwt_c/specs/Judging.antt"
     # the payload of an order may be any value
     readers | sed -n '/^const FIELDS/,/];/p' | words_of | sed '/^payload$/d; s/^/6 wrong /'
     readers | sed -n '/key[a-z_]*_member(/p; /Missing(Field/p' | words_of | sed 's/^/6 missing /'
