@@ -3,16 +3,20 @@
 
     sdjwt-explain 17                                   the entry of a number
     sdjwt-explain wrong binding                        the entry of a name or a reason
-    sdjwt-explain refused 25 expired                   the entry of a whole line
-    sdjwt-explain 'unreadable 1 notJson' policy.json   the same, and where this file is wrong
+    sdjwt-explain refused 73                           the entry of the front of a line
+    sdjwt-explain refused 73 consentRefused at 0       the entry of a whole line
+    sdjwt-explain unreadable 1 notJson policy.json     the same, and where this file is wrong
     sdjwt verify p.json t.txt 2>&1 | sdjwt-explain     each refusal as JSON, all other lines as they are
 
-In a pipe the status is that of the refusal, and 0 where there is none. Else it is 0 where there is an entry, 1 where there is
-none or the file could not be read, and 2 where the words are wrong. It judges nothing: what the file has in it is compared with
-the line, and where it has no such fault this is said.
+Quotes around a line make no difference. In a pipe the status is that of the refusal, and 0 where there is none. Else it
+is 0 where there is an entry, 1 where there is none or the file could not be read, and 2 where the words are wrong. It is
+4 where the answer could not be written; a reader who wants no more of it ends it by SIGPIPE, as other programs. It
+judges nothing: what the file has in it is compared with the line, and where it has no such fault this is said.
 """
 import json
+import os
 import re
+import signal
 import sys
 import textwrap
 from pathlib import Path
@@ -29,12 +33,36 @@ ENTRY = r"^- \*\*([\w ]+)\*\*: (.*(?:\n  .*)*)$|^\| `([A-Za-z_ ]+)` \| ([^|]+) \
 MARKS = r" \*(?:Cause|Remedy):\* "
 # The statuses of the lines that have no number, and how a line is told from others.
 LINES = ((1, r"refused (\d+) ([A-Za-z]+)(?: at (.+))?"), (6, r"unreadable ([12]) ([A-Za-z]+(?: [a-z_]+)?)"),
-         (3, r"(unread) (\d+|clock|source)"), (2, r"(usage)"), (4, r"(unwritten)"), (5, r"(memory)"))
+         (3, r"(unread) (\d+|clock|source)"), (2, r"(usage)"), (4, r"(unwritten)"), (5, r"(memory)"), (8, r"(notAsked)"))
 
 # nothing is written beside what was installed
 sys.dont_write_bytecode = True
 sys.path.insert(0, str(INSTALLED if IS_INSTALLED else HERE / "src/sdjwt"))
 import _detail  # noqa: E402
+
+
+class Unread(Exception):
+    """What could not be read, and why."""
+
+    def __init__(self, name, fault):
+        super().__init__(f"{name} could not be read: {fault.strerror}")
+
+
+def content_of(name, most=-1):
+    """The first bytes of a file, or all of them."""
+    try:
+        with open(name, "rb") as file:
+            return file.read(most)
+    except OSError as fault:
+        raise Unread(name, fault) from None
+
+
+def lines_of(stream):
+    """The lines of standard input."""
+    try:
+        yield from stream
+    except OSError as fault:
+        raise Unread("standard input", fault) from None
 
 
 def sections(page):
@@ -83,7 +111,7 @@ def pipe(entries):
     status = 0
     for stream in (sys.stdin, sys.stdout):
         stream.reconfigure(errors="surrogateescape")
-    for line in sys.stdin:
+    for line in lines_of(sys.stdin):
         if heading_of(line.rstrip("\n")):
             status, line = as_json(line.rstrip("\n"), entries)
             line += "\n"
@@ -100,10 +128,11 @@ def found(wanted, entries):
 
 
 def names_of(heading):
-    """All by which an entry may be asked for: `refused 10 badSignature` also by 10, by its name, and by both."""
+    """All by which an entry may be asked for: `refused 10 badSignature` also by 10, by its name, by both, and by
+    `refused 10`."""
     words = heading.split(" ")
     if words[0] == "refused":
-        return {heading, words[1], words[2], f"{words[1]} {words[2]}"}
+        return {heading, words[1], words[2], f"{words[1]} {words[2]}", f"{words[0]} {words[1]}"}
     return {heading, " ".join(words[1:]) if words[0] == "unreadable" else heading}
 
 
@@ -121,8 +150,7 @@ def more_of(heading, name):
     reason = heading[len("unreadable "):] if heading.startswith("unreadable ") else None
     if reason is None:
         return f"{name}: of a file more is said where the line begins with `unreadable`"
-    with open(name, "rb") as file:
-        said = _detail.detail(reason, file.read(_detail.FILE_MAX + 1))
+    said = _detail.detail(reason, content_of(name, _detail.FILE_MAX + 1))
     return f"In {name}: {said or 'no such fault is found. Is it another file, or was it changed since?'}"
 
 
@@ -138,33 +166,53 @@ def plain(said):
 def tell(wanted, name, entries):
     """Prints the entries, with what is wrong in a file where one is named."""
     for number, heading in enumerate(found(wanted, entries)):
+        # read before anything is printed, since it may fail
+        more = more_of(heading, name) if name is not None else None
         print("\n" * (number > 0) + heading + "\n\n" + plain(entries[heading]))
-        if name is not None:
-            print("\n" + filled(more_of(heading, name)))
+        if more is not None:
+            print("\n" + filled(more))
         elif case_of(heading):
             print("\nIn examples/refusals, sdjwt {} gives:\n  {}".format(*case_of(heading).groups()))
 
 
-def main():
-    words = sys.argv[1:]
-    if words in (["-h"], ["--help"]) or not words and sys.stdin.isatty():
-        print(__doc__.strip())
-        return 0 if words else 2
-    entries = sections(PAGE.read_text(encoding="utf-8"))
-    if not words:
-        return pipe(entries)
+def explain(words, entries):
+    """Explains what the words name, and answers the status."""
     wanted, name = " ".join(words), None
     if len(words) > 1 and not found(wanted, entries) and found(" ".join(words[:-1]), entries):
         wanted, name = " ".join(words[:-1]), words[-1]
     if not found(wanted, entries):
         print(f"sdjwt-explain: there is no entry of {wanted!r}", file=sys.stderr)
         return 1
-    try:
-        tell(wanted, name, entries)
-    except OSError as fault:
-        print(f"sdjwt-explain: {name} could not be read: {fault.strerror}", file=sys.stderr)
-        return 1
+    tell(wanted, name, entries)
     return 0
+
+
+def answer(words):
+    """Does what the words ask for, and answers the status."""
+    asks = words in (["-h"], ["--help"])
+    if asks or not words and (sys.stdin is None or sys.stdin.isatty()):
+        print(__doc__.strip())
+        return 0 if asks else 2
+    entries = sections(content_of(PAGE).decode())
+    return explain(words, entries) if words else pipe(entries)
+
+
+def main():
+    # a reader of standard output that ends early ends this too, without a word
+    signal.signal(signal.SIGPIPE, signal.SIG_DFL)
+    try:
+        if sys.stdout is None:
+            raise OSError(0, "it is closed")
+        status = answer(sys.argv[1:])
+        sys.stdout.flush()
+    except Unread as fault:
+        print(f"sdjwt-explain: {fault}", file=sys.stderr)
+        status = 1
+    except OSError as fault:
+        print(f"sdjwt-explain: the answer could not be written: {fault.strerror}", file=sys.stderr)
+        # what is left of it is not written at the end either
+        os._exit(4)
+    return status
 
 
 if __name__ == "__main__":
