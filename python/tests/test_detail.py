@@ -171,3 +171,9 @@ def test_a_name_drives_no_terminal(name):
         with pytest.raises(sdjwt.Unreadable) as caught:
             sdjwt.Policy(text)
         assert caught.value.detail.isprintable() and caught.value.detail.isascii() and len(caught.value.detail) < 500
+
+
+def test_a_line_that_only_the_libraries_write_is_explained():
+    with pytest.raises(sdjwt.Unreadable, match="^unreadable 1 missing algs$") as raised:
+        sdjwt.present({"want": []}, "", check=lambda question: True)
+    assert raised.value.explanation and raised.value.cause and raised.value.remedy
