@@ -9,20 +9,20 @@ import sys
 import threading
 import tracemalloc
 from contextlib import contextmanager
-from itertools import cycle
+from itertools import count, cycle
 from pathlib import Path
 
 import pytest
 
 import sdjwt
-from sdjwt import _library
+from sdjwt import _library, _stack
 
 KEY = "dGhlIHRpY2tldCBvZmZpY2Uga2V5LCBub3QgeW91cnM"
 KEYS = {"keys": [{"kty": "oct", "k": KEY}]}
 NOW = 1_800_000_000
 PACKAGE = str(Path(sdjwt.__file__).parent)
 # the modules that keep something between two calls
-KEEPERS = (sdjwt.__file__, _library.__file__)
+KEEPERS = (sdjwt.__file__, _library.__file__, _stack.__file__)
 each = pytest.mark.parametrize
 
 
@@ -109,10 +109,10 @@ class Between:
 
     def __init__(self, office):
         self.office, self.names = office, cycle(office.calls)
-        self.count, self.wrong = 0, []
+        self.made, self.wrong = 0, []
 
     def __call__(self):
-        self.count += 1
+        self.made += 1
         name = next(self.names)
         got = answer(self.office.calls[name])
         if got != self.office.alone[name]:
@@ -151,7 +151,7 @@ def test_a_signal_handler_calls_between(name):
     call, alone = FIRST.calls[name], FIRST.alone[name]
     mixed = 0
     with alarms(between):
-        while between.count < 1000:
+        while between.made < 1000:
             mixed += answer(call) != alone
     assert (mixed, between.wrong) == (0, [])
 
@@ -182,7 +182,7 @@ def test_a_finalizer_calls_between(name):
         gc.set_threshold(*thresholds)
         gc.unfreeze()
     gc.collect()
-    assert between.count == 1000 and between.wrong == []
+    assert between.made == 1000 and between.wrong == []
 
 
 def bytecodes(act, call, files=PACKAGE):
@@ -212,7 +212,33 @@ def bytecodes(act, call, files=PACKAGE):
 def test_a_call_comes_between_each_two_bytecodes(name, office, other):
     between = Between(other)
     assert bytecodes(between, office.calls[name]) == office.alone[name]
-    assert between.count > 50 and between.wrong == []
+    assert between.made > 50 and between.wrong == []
+
+
+@each("name", ["show", "Policy.verify"])
+def test_one_call_comes_between_where_a_thread_calls_first(name):
+    """In a thread for each two bytecodes, since what a thread keeps is made by its first call."""
+    between = Between(SECOND)
+
+    def run(at):
+        places = count()
+
+        def act():
+            if next(places) == at:
+                between()
+
+        got.append(bytecodes(act, FIRST.calls[name], KEEPERS))
+        acted.append(next(places) > at)
+
+    for at in count():
+        got, acted = [], []
+        thread = threading.Thread(target=run, args=(at,))
+        thread.start()
+        thread.join()
+        assert got == [FIRST.alone[name]] and between.wrong == []
+        if not acted[0]:
+            break
+    assert at > 50
 
 
 class Interrupt(BaseException):
@@ -245,7 +271,7 @@ def test_a_handler_raises_between_any_two_bytecodes(name):
     call, alone = FIRST.calls[name], FIRST.alone[name]
     for _ in interrupted(call):
         assert answer(call) == alone
-        for kept in (_library._ROOMS.free, *(policy._handles for policy in FIRST.policies)):
+        for kept in (_library._ROOMS.free or [], *(policy._handles for policy in FIRST.policies)):
             assert len({id(each) for each in kept}) == len(kept) <= _library.KEPT
     between = Between(SECOND)
     assert bytecodes(between, call) == alone and between.wrong == []

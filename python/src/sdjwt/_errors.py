@@ -61,9 +61,9 @@ class Refused(SdJwtError):
 
 
 class Unreadable(SdJwtError, ValueError):
-    """An order, a policy, a query or a seed is not of its form.
+    """An order, a policy or a query is not of its form.
 
-    `input` is 2 for the seed and 1 for any other, and `reason` says what is wrong with it.
+    `reason` says what is wrong with it. `input` is 1, the number that the line has for it.
     """
 
     def __init__(self, line: str, detail: str | Callable[[str], str] = "") -> None:

@@ -97,21 +97,32 @@ class _Rooms(threading.local):
     call ends by what a handler raised, its room does not come back, and is garbage.
     """
 
-    def __init__(self) -> None:
-        self.free: list[_Room] = []
+    # A thread makes its list in its first call, and not by __init__: what comes between would find an object without one.
+    free: list[_Room] | None = None
 
 
 _ROOMS = _Rooms()
 
 
-def _taken(free: list[_Room], likely: int) -> _Room:
+def _taken(likely: int) -> _Room:
     """A room, of more than this where it would not be kept, so that a long answer seldom has to be made twice."""
     if likely > _ROOM_MOST:
         return _Room(likely + 256)
-    try:
-        return free.pop()
-    except IndexError:
-        return _Room()
+    free = _ROOMS.free
+    if free is not None:
+        try:
+            return free.pop()
+        except IndexError:
+            pass
+    return _Room()
+
+
+def _give_back(room: _Room) -> None:
+    free = _ROOMS.free
+    if free is None:
+        _ROOMS.free = [room]
+    elif len(free) < KEPT:
+        free.append(room)
 
 
 def call(name: str, *words: Any) -> tuple[int, bytes]:
@@ -124,15 +135,14 @@ def call(name: str, *words: Any) -> tuple[int, bytes]:
         if isinstance(word, (bytes, ctypes.Array)):
             passed.append(len(word))
             given += len(word)
-    free = _ROOMS.free
-    room = _taken(free, given * _TIMES.get(name, 1))
+    room = _taken(given * _TIMES.get(name, 1))
     status = function(*passed, room.at, room.size, room.at_len)
     if status == UNWRITTEN:
         room = _Room(room.len.value)
         status = function(*passed, room.at, room.size, room.at_len)
     said = room.text()
-    if room.is_kept and len(free) < KEPT:
-        free.append(room)
+    if room.is_kept:
+        _give_back(room)
     return status, said
 
 

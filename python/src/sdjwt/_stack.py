@@ -48,32 +48,32 @@ def _load() -> ctypes.CDLL | None:
 _LIBRARY = _load()
 
 
-def _low_end() -> int | None:
-    """The address at which the stack of this thread ends. None where it has plenty, or nobody tells."""
-    if _LIBRARY is None:
-        return None
-    attributes, low, size = _ATTRIBUTES(), c_size_t(), c_size_t()
-    if _LIBRARY.pthread_getattr_np(_LIBRARY.pthread_self(), byref(attributes)) != 0:
-        return None
-    _LIBRARY.pthread_attr_getstack(byref(attributes), byref(low), byref(size))
-    _LIBRARY.pthread_attr_destroy(byref(attributes))
-    return low.value if size.value < _PLENTY else None
-
-
 class _Thread(threading.local):
-    """What was found out of each thread."""
+    """The address at which the stack of a thread ends, or 0 where it has plenty or nobody tells. None until its first call."""
 
-    def __init__(self) -> None:
-        self.low = _low_end()
+    low: int | None = None
 
 
 _THREAD = _Thread()
 
 
+def _low_end() -> int:
+    if _LIBRARY is None:
+        return 0
+    attributes, low, size = _ATTRIBUTES(), c_size_t(), c_size_t()
+    if _LIBRARY.pthread_getattr_np(_LIBRARY.pthread_self(), byref(attributes)) != 0:
+        return 0
+    _LIBRARY.pthread_attr_getstack(byref(attributes), byref(low), byref(size))
+    _LIBRARY.pthread_attr_destroy(byref(attributes))
+    return low.value if size.value < _PLENTY else 0
+
+
 def need_stack() -> None:
     """Refuses a call for which too little is left. Each call of the package begins with it."""
     low = _THREAD.low
-    if low is not None:
+    if low is None:
+        low = _THREAD.low = _low_end()
+    if low:
         _look(low)
 
 
