@@ -9,7 +9,8 @@
  * THE ANSWER goes to the caller's buffer `out`, which has room for `room` bytes, and its length to `*len`. It has no
  * zero byte behind it. A call that answers
  *
- *   SDJWT_DONE        wrote the answer whole: a text, and a line end behind it, but for sdjwt_issue_ask;
+ *   SDJWT_DONE        wrote the answer whole: a text, and a line end behind it, except from sdjwt_issue_ask and the
+ *                     calls whose names begin with sdjwt_question, whose answers have no line end;
  *   SDJWT_REFUSED     wrote a line that tells why, as "refused 10 badSignature\n";
  *   SDJWT_UNREADABLE  wrote a line that tells which of its first two inputs is not of its form, and why, as
  *                     "unreadable 1 notJson\n";
@@ -18,10 +19,10 @@
  *   SDJWT_USAGE       wrote nothing, since the caller broke a rule that stands at the function. `*len` is 0;
  *   SDJWT_MEMORY      wrote nothing, since malloc found no memory. `*len` is 0.
  *
- * No other status comes, but for sdjwt_judge and sdjwt_policy_judge, which have two more: SDJWT_ASKS and
- * SDJWT_NOT_ASKED; and for sdjwt_present_ask, which has SDJWT_ASKS and SDJWT_TO_SIGN. What lies behind the answer in
- * `out` stays as it was, also where the status is not SDJWT_DONE: look at no more than `*len` bytes, and at none
- * where nothing was written.
+ * Some calls have further statuses: sdjwt_judge and sdjwt_policy_judge have SDJWT_ASKS and SDJWT_NOT_ASKED,
+ * sdjwt_present_ask has SDJWT_ASKS and SDJWT_TO_SIGN, and sdjwt_question_kid and sdjwt_question_claim have
+ * SDJWT_MISSING. What lies behind the answer in `out` stays as it was, also where the status is not SDJWT_DONE: look at
+ * no more than `*len` bytes, and at none where nothing was written.
  *
  * POINTERS. None may be null, not even where its length is 0: pass "" for an input of no bytes, and any byte of
  * yours for a buffer of no room. `*len` need not be set before the call. `out` and `len` may overlap neither each
@@ -47,14 +48,12 @@ extern "C" {
 #endif
 
 #if defined(__GNUC__) || defined(__clang__)
-#define SDJWT_NONNULL __attribute__((nonnull))
 #define SDJWT_CHECKED __attribute__((nonnull, warn_unused_result))
 #else
-#define SDJWT_NONNULL
 #define SDJWT_CHECKED
 #endif
 
-/* The version of this header. A library fits where sdjwt_abi_version() answers the same. */
+/* The version of this header. A library fits if sdjwt_abi_version() returns the same. */
 #define SDJWT_ABI_VERSION 1
 
 /* Stack that is enough for each call, in bytes. */
@@ -68,10 +67,11 @@ extern "C" {
 #define SDJWT_MEMORY 5
 #define SDJWT_UNREADABLE 6
 
-/* The statuses that sdjwt_judge and sdjwt_present_ask have besides. The program has none of them. */
+/* The statuses that only some calls have. The program has none of them. */
 #define SDJWT_ASKS 7
 #define SDJWT_NOT_ASKED 8
 #define SDJWT_TO_SIGN 9
+#define SDJWT_MISSING 10
 
 /* What is said of a signature, for sdjwt_judge, sdjwt_present_ask and sdjwt_present_sign. */
 #define SDJWT_UNSAID 0
@@ -90,13 +90,22 @@ extern "C" {
 /* A status. */
 typedef uint8_t sdjwt_status;
 
-/* The version of the library. */
+/* The version of what the library exports. It changes if a program that was compiled before no longer fits. */
 uint32_t sdjwt_abi_version(void);
 
+/* The version of the library, as "0.3.0". The string has a zero byte at its end and stays valid. */
+const char *sdjwt_version(void);
+
 /*
- * Issues the token of an order. The seed has 32 bytes or more, of which the first 32 are used: two seeds that differ only
- * behind them give the same salts. With fewer than 32 the status is SDJWT_UNREADABLE. Whoever knows the seed can guess what is hidden: take it from the system's random numbers, and use
- * none twice.
+ * 1 if the library was built from proved crates, and 0 if it was built without proofs, for a first look. The library
+ * says so of itself: whether you have the library that was built is what the checksums of a release are for.
+ */
+int sdjwt_is_proved(void);
+
+/*
+ * Issues the token of an order. The seed has 32 bytes or more, of which the first 32 are used: two seeds that differ
+ * only behind them give the same salts. With fewer than 32 the status is SDJWT_UNREADABLE. Whoever knows the seed can
+ * guess what is hidden: take it from the system's random numbers, and use none twice.
  */
 SDJWT_CHECKED sdjwt_status sdjwt_issue(const uint8_t *order, size_t order_len,
                                        const uint8_t *seed, size_t seed_len,
@@ -107,17 +116,17 @@ SDJWT_CHECKED sdjwt_status sdjwt_issue(const uint8_t *order, size_t order_len,
  * or in a secure element. Then sdjwt_issue_sign puts your signature to it. Nothing is kept between the two calls: each
  * lays out the order anew, so give both the same order, algorithm and seed.
  *
- * The order is that of sdjwt_issue without `key` and `alg`: with one of them the line is "unreadable 1 unknown". `alg` is
- * the name of your algorithm, as "ES256", which the header of the token tells (RFC 7515 section 4.1.1). Where it is no
- * UTF-8 text, of no bytes, or "none", the status is SDJWT_USAGE; of all other names none is known here, and each is
+ * The order is that of sdjwt_issue without `key` and `alg`: with one of them the line is "unreadable 1 unknown". `alg`
+ * is the name of your algorithm, as "ES256", which the header of the token tells (RFC 7515 section 4.1.1). Where it is
+ * no UTF-8 text, of no bytes, or "none", the status is SDJWT_USAGE; of all other names none is known here, and each is
  * taken. The seed is that of sdjwt_issue: secret, and used for one token alone, though for both calls. Of one that is
  * too short the line is "unreadable 2 short".
  *
  * The answer is the header and the payload with a full stop between them, and NO line end behind it. Of the refusals 51
  * to 61 each comes here but 61, on the length of the token, which has no signature yet.
  *
- * YOU ANSWER for the signature, which the library can't check. Sign just the `*len` bytes of the answer, with the private
- * key of the algorithm that you named. Let this key sign by no other algorithm, and nothing but tokens of yours.
+ * YOU ANSWER for the signature, which the library can't check. Sign just the `*len` bytes of the answer, with the
+ * private key of the algorithm that you named. Let this key sign by no other algorithm, and nothing but tokens of yours.
  */
 SDJWT_CHECKED sdjwt_status sdjwt_issue_ask(const uint8_t *order, size_t order_len,
                                            const uint8_t *alg, size_t alg_len,
@@ -126,8 +135,8 @@ SDJWT_CHECKED sdjwt_status sdjwt_issue_ask(const uint8_t *order, size_t order_le
 
 /*
  * The token of the same order, algorithm and seed, with this signature of what sdjwt_issue_ask answers. It is the bytes
- * of the signature as a JWS has them, before base64url: of ES256 the 64 bytes of r and s (RFC 7518 section 3.4), and not
- * the DER that OpenSSL writes. Of no bytes the status is SDJWT_USAGE.
+ * of the signature as a JWS has them, before base64url: of ES256 the 64 bytes of r and s (RFC 7518 section 3.4), and
+ * not the DER that OpenSSL writes. Of no bytes the status is SDJWT_USAGE.
  */
 SDJWT_CHECKED sdjwt_status sdjwt_issue_sign(const uint8_t *order, size_t order_len,
                                             const uint8_t *alg, size_t alg_len,
@@ -157,7 +166,7 @@ SDJWT_CHECKED sdjwt_status sdjwt_present(const uint8_t *order, size_t order_len,
  * call keeps anything, so give each the same order, token and moment, and what you said before.
  *
  * The order is that of sdjwt_present without its two keys. In the place of `keys` it must have `algs`, a list of the
- * algorithms that you take of the issuer, as in ""algs": ["ES256"]"; "none" and "" are never taken, also where they
+ * algorithms that you take of the issuer, as in "algs": ["ES256"]; "none" and "" are never taken, also where they
  * stand there. `want` and `never` are as ever. A `binding` has `aud`, `nonce` and `alg`, the name of the algorithm by
  * which you sign, and no `key`; it may have `kid`, and then the claim `cnf` of what is shown has to name this key.
  * Where it has none, that the key is the one of `cnf` is yours to know.
@@ -218,10 +227,10 @@ SDJWT_CHECKED sdjwt_status sdjwt_audit(const uint8_t *order, size_t order_len,
 
 /*
  * Shows, of the tokens that a holder has, the one that answers a query with the fewest disclosures. The tokens stand
- * one behind the other with nothing between them, and their lengths in `lengths`, an array of `count`. The lengths are 1
- * to SDJWT_TOKENS, and make the whole of `tokens_len`: with others the status is SDJWT_USAGE. The answer has two lines:
- * the number of the token, counted from 0, as "credential 1\n", and the text of what is shown. Where no token answers
- * the query, the status is SDJWT_REFUSED.
+ * one behind the other with nothing between them, and their lengths in `lengths`, an array of `count`. The lengths are
+ * 1 to SDJWT_TOKENS, and make the whole of `tokens_len`: with others the status is SDJWT_USAGE. The answer has two
+ * lines: the number of the token, counted from 0, as "credential 1\n", and the text of what is shown. Where no token
+ * answers the query, the status is SDJWT_REFUSED.
  */
 SDJWT_CHECKED sdjwt_status sdjwt_wallet(const uint8_t *query, size_t query_len,
                                         const uint8_t *tokens, size_t tokens_len,
@@ -236,7 +245,7 @@ typedef struct sdjwt_policy {
     void *held;
 } sdjwt_policy;
 
-#define SDJWT_POLICY_INIT {0}
+#define SDJWT_POLICY_INIT {NULL}
 
 /*
  * Reads a policy into a handle, in place of one that the handle held, which is freed. The answer is empty. With another
@@ -247,6 +256,17 @@ SDJWT_CHECKED sdjwt_status sdjwt_policy_new(sdjwt_policy *handle,
                                             uint8_t *out, size_t room, size_t *len);
 
 /*
+ * Sets the nonce that the policy of a handle wants of a key binding token, for the calls that follow, so that each
+ * presentation can answer a nonce of its own under a policy that is read once. All else of the policy stays. It writes
+ * no text, so it has no buffer: with SDJWT_DONE the nonce is set, and with another status the policy is as it was.
+ *
+ *   SDJWT_USAGE       the handle holds no policy, its policy has no `binding`, or the nonce is not UTF-8 or has more
+ *                     than 256 bytes;
+ *   SDJWT_MEMORY      malloc found no memory.
+ */
+SDJWT_CHECKED sdjwt_status sdjwt_policy_nonce(sdjwt_policy *handle, const uint8_t *nonce, size_t nonce_len);
+
+/*
  * Verifies a presentation as sdjwt_verify does, under the policy of a handle. Where that holds none, the status is
  * SDJWT_USAGE.
  */
@@ -255,8 +275,8 @@ SDJWT_CHECKED sdjwt_status sdjwt_policy_verify(sdjwt_policy *handle,
                                                uint8_t *out, size_t room, size_t *len);
 
 /*
- * Verifies a presentation as sdjwt_verify does, but you check its signatures: for algorithms whose keys the library does
- * not hold, as ES256 and EdDSA. Call with SDJWT_UNSAID twice, and again with what you found out each time it asks:
+ * Verifies a presentation as sdjwt_verify does, but you check its signatures: for algorithms whose keys the library
+ * does not hold, as ES256 and EdDSA. Call with SDJWT_UNSAID twice, and again with what you found out each time it asks:
  *
  *   SDJWT_ASKS        wrote a question, as a line of JSON: an object with the texts `ask`, which is "issuer" or
  *                     "holder", `alg`, and `kid` and `typ` where the header has them; with `text`, whose bytes are what
@@ -268,9 +288,9 @@ SDJWT_CHECKED sdjwt_status sdjwt_policy_verify(sdjwt_policy *handle,
  *
  * `issuer` and `holder` are what you say of the two signatures: SDJWT_UNKNOWN (you have no key for it), SDJWT_BAD, or
  * SDJWT_GOOD. First comes that of the issuer; where you said SDJWT_GOOD of it and the policy has a `binding`, that of
- * the holder. With other numbers, or with a word on the holder where that on the issuer is not SDJWT_GOOD, the status is
- * SDJWT_USAGE. A question repeats what you are to check, and no call keeps anything, so give each call the same policy,
- * algorithms, token and moment.
+ * the holder. With other numbers, or with a word on the holder where that on the issuer is not SDJWT_GOOD, the status
+ * is SDJWT_USAGE. A question repeats what you are to check, and no call keeps anything, so give each call the same
+ * policy, algorithms, token and moment.
  *
  * The policy is that of sdjwt_verify. Its keys are not looked at, nor are those of its binding. Its `algs` are the
  * algorithms that you take of the issuer, and `algs` is a JSON list of those that you take of the holder, as
@@ -299,8 +319,11 @@ SDJWT_CHECKED sdjwt_status sdjwt_policy_judge(sdjwt_policy *handle,
                                               uint8_t issuer, uint8_t holder,
                                               uint8_t *out, size_t room, size_t *len);
 
-/* Frees what a handle holds. It holds nothing from then on, so to free it once more does nothing. */
-SDJWT_NONNULL void sdjwt_policy_free(sdjwt_policy *handle);
+/*
+ * Frees what a handle holds. It holds nothing from then on, so to free it once more does nothing, and neither does
+ * sdjwt_policy_free(NULL).
+ */
+void sdjwt_policy_free(sdjwt_policy *handle);
 
 #ifdef __cplusplus
 }
