@@ -36,6 +36,7 @@ here=$(cd "$(dirname "$0")" && pwd)
 top=$(cd "$here/.." && pwd)
 abi=1
 version=$(sed -n 's/^version = "\(.*\)"$/\1/p' "$top/python/pyproject.toml")
+[ -n "$version" ] || refuse 'python/pyproject.toml says no version'
 record() { python3 -B "$top/release/record.py" "$@"; }
 
 # The kit's archive has the calls of malloc, realloc and free.
@@ -53,19 +54,25 @@ rm -rf "$here/out"
 begun=$(record begin "$here/out/record")
 if [ "$proved" = yes ]; then
     how=proved
+    is_proved=1
     sh "$top/prove.sh" sdjwt_c
     functions=$top/crates/sdjwt_c/out/libsdjwt_c.a
     said=$(record value "$top/crates/sdjwt_c/out/record" proved)
     [ "$said" = yes ] || refuse "by its record the crate sdjwt_c is not proved: $said"
 else
     how='not proved'
+    is_proved=0
     echo 'Not proved: this builds the library without proofs, in a minute or two. sh c/build.sh proves.'
     functions=$made/look.o
     sh "$here/look.sh" "$kit" "$functions"
 fi
 
-# One object, of which others see the functions of the header alone.
-ld -r -o "$made/sdjwt.o" --whole-archive "$functions" --no-whole-archive "$kit/c/liblibc_c.a"
+# One object, of which others see the functions of the header alone. Those of built.c are not of the crate.
+ld -r -o "$made/crate.o" --whole-archive "$functions" --no-whole-archive "$kit/c/liblibc_c.a"
+objcopy --redefine-sym sdjwt_policy_free=policy_free "$made/crate.o"
+"$CC" -std=c99 -O2 -fPIC -fno-ident -I"$here" -DBUILT_VERSION="\"$version\"" -DBUILT_PROVED=$is_proved \
+    -c -o "$made/built.o" "$here/built.c"
+ld -r -o "$made/sdjwt.o" "$made/crate.o" "$made/built.o"
 objcopy --wildcard --keep-global-symbol='sdjwt_*' "$made/sdjwt.o"
 ar rcsD "$made/lib/libsdjwt.a" "$made/sdjwt.o"
 # shellcheck disable=SC2086 # CFLAGS are words

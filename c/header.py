@@ -1,5 +1,5 @@
 #!/usr/bin/env python3
-"""Checks that sdjwt.h declares what crates/sdjwt_c exports, with parameters that fit, and no more.
+"""Checks that sdjwt.h declares what crates/sdjwt_c exports and c/built.c adds, with parameters that fit, and no more.
 
 A slice is a pointer and a length to C, an allocator is nothing, and a handle is a struct of one pointer.
 With libraries as its arguments, it also checks that they export just these names. With --calls it prints, in Rattle, a
@@ -51,9 +51,16 @@ def exported():
     found = {}
     for path, types, result in functions():
         result = SEEN_BY_C[result or None][0]
-        seen = [c for t in types for c in SEEN_BY_C[t]] or ["void"]
-        found[path.split("::")[1]] = (RESULTS.get(result, result), seen)
+        parameters = [c for t in types for c in SEEN_BY_C[t]] or ["void"]
+        found[path.split("::")[1]] = (RESULTS.get(result, result), parameters)
     return found
+
+
+def added():
+    """What c/built.c defines that is not of the crate, or in the place of what is: its result and its parameters."""
+    text = (TOP / "c/built.c").read_text()
+    found = re.findall(r"^((?:const )?\w+) (\*?)(sdjwt_\w+)\(([^)]*)\) \{", text, re.M)
+    return {name: (result + (" *" if star else ""), seen(parameters)) for result, star, name, parameters in found}
 
 
 def calls():
@@ -63,18 +70,18 @@ def calls():
                       "    let mut len = 0usize;", "    let mut policy = handle::SdjwtPolicy::none(alloc);", *lines, "}"])
 
 
+def seen(parameters):
+    """The types of the parameters of a function in C."""
+    words = [re.fullmatch(r"\s*((?:const )?\w+)\s*(\*?)\s*\w*\s*", parameter) for parameter in parameters.split(",")]
+    return [word[1] + (" *" if word[2] else "") for word in words]
+
+
 def declared():
     """What the header declares."""
     text = re.sub(r"/\*.*?\*/", "", (TOP / "c/sdjwt.h").read_text(), flags=re.S)
     text = re.sub(r"^#.*$", "", text, flags=re.M)
-    found = {}
-    for result, name, parameters in re.findall(r"(\w+)\s+(sdjwt_\w+)\(([^)]*)\);", text):
-        seen = []
-        for parameter in parameters.split(","):
-            words = re.fullmatch(r"\s*((?:const )?\w+)\s*(\*?)\s*\w*\s*", parameter)
-            seen.append(words[1] + (" *" if words[2] else ""))
-        found[name] = (result, seen)
-    return found
+    found = re.findall(r"((?:const )?\w+)\s+(\*?)(sdjwt_\w+)\(([^)]*)\);", text)
+    return {name: (result + (" *" if star else ""), seen(parameters)) for result, star, name, parameters in found}
 
 
 def of_library(path):
@@ -89,8 +96,8 @@ def main():
     if sys.argv[1:] == ["--calls"]:
         print(calls())
         return
-    code, header = exported(), declared()
-    faults = [f"{name}: the crate has {code.get(name)}, the header {header.get(name)}"
+    code, header = {**exported(), **added()}, declared()
+    faults = [f"{name}: the library has {code.get(name)}, the header {header.get(name)}"
               for name in sorted({*code, *header}) if code.get(name) != header.get(name)]
     for library in sys.argv[1:]:
         names = of_library(library)
@@ -100,7 +107,7 @@ def main():
         faults += [f"{library}: it exports {name} too" for name in sorted(extra)]
     if faults:
         sys.exit("\n".join(faults))
-    print(f"sdjwt.h: {len(code)} functions, as the crate exports them")
+    print(f"sdjwt.h: {len(code)} functions, as the library exports them")
 
 
 if __name__ == "__main__":

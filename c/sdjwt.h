@@ -20,14 +20,14 @@
  *   SDJWT_MEMORY      wrote nothing, since malloc found no memory. `*len` is 0.
  *
  * Some calls have further statuses: sdjwt_judge and sdjwt_policy_judge have SDJWT_ASKS and SDJWT_NOT_ASKED,
- * sdjwt_present_ask has SDJWT_ASKS and SDJWT_TO_SIGN, and sdjwt_question_kid and sdjwt_question_claim have
- * SDJWT_MISSING. What lies behind the answer in `out` stays as it was, also where the status is not SDJWT_DONE: look at
- * no more than `*len` bytes, and at none where nothing was written.
+ * sdjwt_present_ask has SDJWT_ASKS and SDJWT_TO_SIGN, and sdjwt_question_text and the like have SDJWT_MISSING. What
+ * lies behind the answer in `out` stays as it was, also where the status is not SDJWT_DONE: look at no more than `*len`
+ * bytes, and at none where nothing was written.
  *
- * POINTERS. None may be null, not even where its length is 0: pass "" for an input of no bytes, and any byte of
- * yours for a buffer of no room. `*len` need not be set before the call. `out` and `len` may overlap neither each
- * other, nor an input, nor a handle; inputs may overlap. A length is at most 2^63 - 1. An order, a policy, a query
- * or a token of more than 16 MiB is refused.
+ * POINTERS. None may be null, not even where its length is 0, except the one of sdjwt_policy_free: pass "" for an input
+ * of no bytes, and any byte of yours for a buffer of no room. `*len` need not be set before the call. `out` and `len`
+ * may overlap neither each other, nor an input, nor a handle; inputs may overlap. A length is at most 2^63 - 1. An
+ * order, a policy, a query or a token of more than 16 MiB is refused.
  *
  * THREADS. Each function may run on several threads at once, over buffers that they do not share. A handle of a policy
  * is for one call at a time: give each thread its own, or keep one behind a lock. It may move from thread to thread.
@@ -126,7 +126,8 @@ SDJWT_CHECKED sdjwt_status sdjwt_issue(const uint8_t *order, size_t order_len,
  * to 61 each comes here but 61, on the length of the token, which has no signature yet.
  *
  * YOU ANSWER for the signature, which the library can't check. Sign just the `*len` bytes of the answer, with the
- * private key of the algorithm that you named. Let this key sign by no other algorithm, and nothing but tokens of yours.
+ * private key of the algorithm that you named. Let this key sign by no other algorithm, and nothing but tokens of
+ * yours.
  */
 SDJWT_CHECKED sdjwt_status sdjwt_issue_ask(const uint8_t *order, size_t order_len,
                                            const uint8_t *alg, size_t alg_len,
@@ -154,8 +155,8 @@ SDJWT_CHECKED sdjwt_status sdjwt_present(const uint8_t *order, size_t order_len,
  * whose keys the library does not hold, as ES256 and EdDSA. Call with SDJWT_UNSAID, and again with what you found out
  * where it asks:
  *
- *   SDJWT_ASKS        wrote the question about the issuer's signature, of the form that sdjwt_judge has for it: a line
- *                     of JSON, an object with `text`, whose bytes are what was signed, `signature`, `alg` and others;
+ *   SDJWT_ASKS        wrote the question about the issuer's signature, of the form that sdjwt_judge has for it. Take
+ *                     what you need out of it by sdjwt_question_text, sdjwt_question_signature and the like;
  *   SDJWT_TO_SIGN     wrote the text of the key binding token that the order asks for: sign it, and call
  *                     sdjwt_present_sign. There is NO line end behind it. Nothing is presented yet;
  *   SDJWT_DONE        wrote what is presented, as sdjwt_present does: the order asks for no key binding token;
@@ -278,10 +279,12 @@ SDJWT_CHECKED sdjwt_status sdjwt_policy_verify(sdjwt_policy *handle,
  * Verifies a presentation as sdjwt_verify does, but you check its signatures: for algorithms whose keys the library
  * does not hold, as ES256 and EdDSA. Call with SDJWT_UNSAID twice, and again with what you found out each time it asks:
  *
- *   SDJWT_ASKS        wrote a question, as a line of JSON: an object with the texts `ask`, which is "issuer" or
- *                     "holder", `alg`, and `kid` and `typ` where the header has them; with `text`, whose bytes are what
- *                     was signed, and `signature`, which is base64url without padding; and for the holder with
- *                     `payload`, the processed payload, whose claim `cnf` names the key. Nothing is accepted yet;
+ *   SDJWT_ASKS        wrote a question, as a line of JSON: an object with the strings `alg`; `ask`, which is "issuer"
+ *                     or "holder"; `kid`, if the header has it; `signature`, in base64url without padding; `text`,
+ *                     whose bytes are what was signed; `typ`, if the header has it; and for the holder with `payload`,
+ *                     the processed payload, whose claim `cnf` names the key. The members are in this order, so that no
+ *                     claim of `payload` comes before what you are to check. Take what you need out of it by
+ *                     sdjwt_question_text, sdjwt_question_signature and the like. Nothing is accepted yet;
  *   SDJWT_DONE        the token is accepted, and the answer is that of sdjwt_verify;
  *   SDJWT_REFUSED     it is refused, by the line that sdjwt_verify would write under what you said;
  *   SDJWT_NOT_ASKED   wrote the line "notAsked\n": you said something that was not asked for. It is no verdict.
@@ -318,6 +321,39 @@ SDJWT_CHECKED sdjwt_status sdjwt_policy_judge(sdjwt_policy *handle,
                                               const uint8_t *token, size_t token_len, uint64_t now,
                                               uint8_t issuer, uint8_t holder,
                                               uint8_t *out, size_t room, size_t *len);
+
+/*
+ * What you need of a question, that is the `*len` bytes that came with SDJWT_ASKS. With these calls you need no reader
+ * of JSON. Each writes one part of the question, with no line end:
+ *
+ *   sdjwt_question_text       what was signed: check the signature over just these bytes;
+ *   sdjwt_question_signature  the signature, decoded from base64url: of ES256 the 64 bytes of r and s (RFC 7518 section
+ *                             3.4), and not the DER that OpenSSL takes;
+ *   sdjwt_question_alg        the algorithm that the header names;
+ *   sdjwt_question_kid        the name of the key in the header, which need not be there;
+ *   sdjwt_question_at         the string at a JSON Pointer (RFC 6901) into the question: "/payload/cnf/jwk/x" is the
+ *                             member `x` of the holder's key.
+ *
+ *   SDJWT_DONE        wrote the part;
+ *   SDJWT_MISSING     wrote nothing: the question has no such string. `*len` is 0;
+ *   SDJWT_UNREADABLE  wrote a line: the bytes are no question, for example "unreadable 1 notJson\n";
+ *   SDJWT_UNWRITTEN and SDJWT_MEMORY, as with every call;
+ *   SDJWT_USAGE       comes from sdjwt_question_at alone: the pointer is not UTF-8.
+ *
+ * Each string is written in UTF-8, without the quotes and escapes of JSON. It comes from whoever made the token, and it
+ * may have zero bytes: compare it with its length.
+ */
+SDJWT_CHECKED sdjwt_status sdjwt_question_text(const uint8_t *question, size_t question_len,
+                                               uint8_t *out, size_t room, size_t *len);
+SDJWT_CHECKED sdjwt_status sdjwt_question_signature(const uint8_t *question, size_t question_len,
+                                                    uint8_t *out, size_t room, size_t *len);
+SDJWT_CHECKED sdjwt_status sdjwt_question_alg(const uint8_t *question, size_t question_len,
+                                              uint8_t *out, size_t room, size_t *len);
+SDJWT_CHECKED sdjwt_status sdjwt_question_kid(const uint8_t *question, size_t question_len,
+                                              uint8_t *out, size_t room, size_t *len);
+SDJWT_CHECKED sdjwt_status sdjwt_question_at(const uint8_t *question, size_t question_len,
+                                             const uint8_t *pointer, size_t pointer_len,
+                                             uint8_t *out, size_t room, size_t *len);
 
 /*
  * Frees what a handle holds. It holds nothing from then on, so to free it once more does nothing, and neither does

@@ -22,7 +22,7 @@ module _ (Misused : Type 0) (kept : Misused → ⊥) (Is : Reply → Type 0) (be
   unwritten : (reply : Reply) → Is reply → told ≡ Unwritten → IsTooLong (reply_text reply) before after len → HandsBy Misused Is before after len number
   unwritten reply is e long = by_status Unwritten e (record { reply = reply; is = is; too_long = long })
 
-  given : (text : List ℕ) → Is (gives text) → IsGiven text Done before after len told → HandsBy Misused Is before after len number
+  pub given : (text : List ℕ) → Is (gives text) → IsGiven text Done before after len told → HandsBy Misused Is before after len number
   given text is (inl w) = by_status Done w.0 (record { text = text; is = is; written = w.1 })
   given text is (inr n) = unwritten (gives text) is n.0 n.1
 

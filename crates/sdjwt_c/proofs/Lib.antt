@@ -6,3 +6,5 @@ pub mod ListTexts
 pub mod Tellings
 pub mod Signings
 pub mod Presentings
+pub mod LastMember
+pub mod PartHanding

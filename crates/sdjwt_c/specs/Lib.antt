@@ -5,6 +5,8 @@ pub mod JudgingSteps
 pub mod Numbers
 pub mod Policies
 pub mod Questions
+pub mod QuestionParts
+pub mod QuestionPartSteps
 pub mod Results
 pub mod Said
 pub mod Tokens

@@ -2,7 +2,7 @@
 -- as the JSON that C gets.
 use Rattle.std.specs.Prelude.{Option, None, Some, codes}
 use Rattle.b64url_text.specs.Base64url.{b64}
-use Rattle.claim_tree.specs.Tree.{Text, text, Tree, leaf, object, Members, no_members, inserted}
+use Rattle.claim_tree.specs.Tree.{Text, text, Tree, leaf, object, Members, no_members, member, inserted}
 use Rattle.verifier_core.specs.declared.asking.Question.{Question}
 
 abbrev pub with_text : Members → Text → Text → Members
@@ -28,7 +28,13 @@ question_members whose question =
 abbrev pub issuer_question : Question → Tree
 issuer_question question = object (question_members (codes "issuer") question)
 
--- about the holder's, beside the processed payload
+-- the members in their order, and this one behind them
+abbrev pub with_last : Members → Text → Tree → Members
+with_last no_members name t = member name t no_members
+with_last (member other u ms) name t = member other u (with_last ms name t)
+
+-- about the holder's; the processed payload stands at the end, so that no claim in it comes before
+-- what is asked
 abbrev pub holder_question : Question → Tree → Tree
 holder_question question payload =
-    object (inserted (question_members (codes "holder") question) (codes "payload") payload)
+    object (with_last (question_members (codes "holder") question) (codes "payload") payload)

@@ -10,7 +10,13 @@ use sd_outside::Status;
 pub(crate) fn give(text: &str, told: Status, room: &mut [u8], len: &mut usize) -> Status
     ensures { IsGiven text.now told room.old room.new len.new result }
 {
-    let bytes = text.as_bytes();
+    give_bytes(text.as_bytes(), told, room, len)
+}
+
+// The same of bytes.
+pub(crate) fn give_bytes(bytes: &[u8], told: Status, room: &mut [u8], len: &mut usize) -> Status
+    ensures { IsGiven bytes.now told room.old room.new len.new result }
+{
     *len = bytes.len();
     if bytes.len() > room.len() {
         return Status::Unwritten;

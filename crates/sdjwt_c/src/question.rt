@@ -1,10 +1,10 @@
 // A question to the caller, as JSON.
-ghost use Rattle.std.specs.Prelude.{◌≡◌, OnOk, IfOk, string_bytes};
+ghost use Rattle.std.specs.Prelude.{◌≡◌, ◌≢◌, OnOk, IfOk, string_bytes};
 ghost use Rattle.claim_tree.specs.JsonText.{json_text};
-ghost use Rattle.claim_tree.specs.Tree.{inserted};
+ghost use Rattle.claim_tree.specs.Tree.{inserted, object, no_members};
 ghost use Rattle.claim_tree.specs.View.{tree_of};
 ghost use Rattle.cli_parts.specs.Lines.{line};
-ghost use Rattle.sdjwt_c.specs.Questions.{with_text, with_maybe, question_members, issuer_question, holder_question};
+ghost use Rattle.sdjwt_c.specs.Questions.{with_text, with_maybe, question_members, with_last, issuer_question, holder_question};
 
 use b64url_text::encode;
 use claim_tree::{Tree, TreeMap, write};
@@ -68,7 +68,30 @@ pub(crate) fn issuer_line(alloc: Global, question: Question) -> Result<String, N
     as_line(write(alloc, &Tree::Object(members))?)
 }
 
-// The question about the holder's signature, beside the processed payload, as a line.
+// The JSON text of an object of some members, with one more behind them.
+fn text_with_last(
+    alloc: Global,
+    members: TreeMap,
+    name: &str,
+    last: &Tree,
+) -> Result<TextBox, NoMemory>
+    requires some { members ≢ no_members }
+    ensures { IfOk result
+        (λ text. text ≡ json_text (object (with_last members name.now (tree_of last.now)))) }
+{
+    let name = write(alloc, &Tree::Text(TextBox::make(alloc, name)?))?;
+    let mut text = write(alloc, &Tree::Object(members))?.into_string();
+    // the brace at its end
+    let _ = text.pop();
+    text.push_str(",")?;
+    text.push_str(name.as_str())?;
+    text.push_str(":")?;
+    text.push_str(write(alloc, last)?.as_str())?;
+    text.push_str("}")?;
+    Ok(TextBox::from_string(text))
+}
+
+// The question about the holder's signature, with the processed payload at its end, as a line.
 pub(crate) fn holder_line(
     alloc: Global,
     question: Question,
@@ -78,7 +101,6 @@ pub(crate) fn holder_line(
         (λ text.
         string_bytes text ≡ line (json_text (holder_question question (tree_of payload)))) }
 {
-    let mut members = members_of(alloc, "holder", question)?;
-    put(alloc, &mut members, "payload", payload)?;
-    as_line(write(alloc, &Tree::Object(members))?)
+    let members = members_of(alloc, "holder", question)?;
+    as_line(text_with_last(alloc, members, "payload", &payload)?)
 }

@@ -1,0 +1,111 @@
+-- The text of an object with a member behind its others.
+use Rattle.std.proofs.Common.{◌≡◌, ◌≢◌, ℕ, ◌-◌, ◌<◌, List, [], ◌∷◌, ◌++◌, Bool, true, false, Option, Some, None, length, take, refl, sym, ap, ◌∙◌, subst, append_assoc, length-append, arith}
+use Rattle.std.specs.Prelude.{codes, slice_index}
+use Rattle.std.specs.Ordering.{nat_cmp, match_ordering}
+use Rattle.std.specs.Cmp.Lexicographic.{slice_cmp}
+use Rattle.std.specs.declared.cmp.Ordering.{Ordering}
+use Rattle.std.specs.declared.cmp.Ordering.TheVariants.{Less, Equal, Greater}
+use Rattle.std.proofs.lemmas.List.{take_at, get_or_at}
+use Rattle.json.specs.Print.{quoted}
+use Rattle.serde_json.specs.Written.{comma_if, members_text}
+use Rattle.claim_tree.specs.Tree.{Text, text, Tree, leaf, object, Members, no_members, member, inserted}
+use Rattle.claim_tree.specs.JsonText.{members_data, json_text}
+use Rattle.verifier_core.specs.declared.asking.Question.{Question}
+use Rattle.sdjwt_c.specs.Questions.{with_text, with_maybe, with_asked, question_members, with_last}
+
+-- ---- the front of a list, and its last element
+
+front_len : (xs : List ℕ) (x : ℕ) → length (xs ++ x ∷ []) - 1 ≡ length xs
+front_len xs x = rw (length-append xs (x ∷ [])) (omega arith)
+
+front_of : (xs : List ℕ) (x : ℕ) → take (length (xs ++ x ∷ []) - 1) (xs ++ x ∷ []) ≡ xs
+front_of xs x = take_at xs (x ∷ []) (length (xs ++ x ∷ []) - 1) (sym (front_len xs x))
+
+last_of : (xs : List ℕ) (x : ℕ) → slice_index (xs ++ x ∷ []) (length (xs ++ x ∷ []) - 1) ≡ x
+last_of xs x = get_or_at xs x [] 0 (length (xs ++ x ∷ []) - 1) (sym (front_len xs x))
+
+some_of : (xs : List ℕ) (x : ℕ) → 0 < length (xs ++ x ∷ [])
+some_of xs x = rw (length-append xs (x ∷ [])) (omega arith)
+
+-- ---- the text of members
+
+-- without the brace at its end
+abbrev open_text : Bool → Members → List ℕ
+open_text later no_members = []
+open_text later (member name t ms) = comma_if later ++ (quoted name ++ 58 ∷ (json_text t ++ open_text true ms))
+
+regroup : (q r a b c : List ℕ) → q ++ (r ++ 58 ∷ (a ++ (b ++ c))) ≡ (q ++ (r ++ 58 ∷ (a ++ b))) ++ c
+regroup q r a b c = sym (append_assoc q (r ++ 58 ∷ (a ++ b)) c ∙ ap (λ s. q ++ s) (append_assoc r (58 ∷ (a ++ b)) c ∙ ap (λ s. r ++ 58 ∷ s) (append_assoc a b c)))
+
+closed : (later : Bool) (ms : Members) → members_text later (members_data ms) ≡ open_text later ms ++ 125 ∷ []
+closed later no_members = refl
+closed later (member name t ms) =
+    ap (λ s. comma_if later ++ (quoted name ++ 58 ∷ (json_text t ++ s))) (closed true ms) ∙ regroup (comma_if later) (quoted name) (json_text t) (open_text true ms) (125 ∷ [])
+
+-- one more member, with the comma before it and the brace at the end
+abbrev last_text : Text → Tree → List ℕ
+last_text name t = 44 ∷ (quoted name ++ 58 ∷ (json_text t ++ 125 ∷ []))
+
+behind_more : (ms : Members) (name : Text) (t : Tree) → members_text true (members_data (with_last ms name t)) ≡ open_text true ms ++ last_text name t
+behind_more no_members name t = refl
+behind_more (member other u ms) name t =
+    ap (λ s. comma_if true ++ (quoted other ++ 58 ∷ (json_text u ++ s))) (behind_more ms name t) ∙ regroup (comma_if true) (quoted other) (json_text u) (open_text true ms) (last_text name t)
+
+-- ---- the text of an object
+
+abbrev opened : Members → List ℕ
+opened ms = 123 ∷ open_text false ms
+
+closes : (ms : Members) → json_text (object ms) ≡ opened ms ++ 125 ∷ []
+closes ms = ap (λ s. 123 ∷ s) (closed false ms)
+
+pub is_some_text : (ms : Members) → 0 < length (json_text (object ms))
+is_some_text ms = subst (λ (whole : List ℕ). 0 < length whole) (sym (closes ms)) (some_of (opened ms) 125)
+
+pub ends_by_brace : (ms : Members) → slice_index (json_text (object ms)) (length (json_text (object ms)) - 1) ≡ 125
+ends_by_brace ms = subst (λ (whole : List ℕ). slice_index whole (length whole - 1) ≡ 125) (sym (closes ms)) (last_of (opened ms) 125)
+
+without_brace : (ms : Members) → take (length (json_text (object ms)) - 1) (json_text (object ms)) ≡ opened ms
+without_brace ms = subst (λ (whole : List ℕ). take (length whole - 1) whole ≡ opened ms) (sym (closes ms)) (front_of (opened ms) 125)
+
+with_one_more : (other : Text) (u : Tree) (ms : Members) (name : Text) (t : Tree) → json_text (object (with_last (member other u ms) name t)) ≡ opened (member other u ms) ++ last_text name t
+with_one_more other u ms name t =
+    ap (λ s. 123 ∷ (comma_if false ++ (quoted other ++ 58 ∷ (json_text u ++ s)))) (behind_more ms name t)
+    ∙ ap (λ s. 123 ∷ s) (regroup (comma_if false) (quoted other) (json_text u) (open_text true ms) (last_text name t))
+
+spread : (f q p : List ℕ) → ((((f ++ 44 ∷ []) ++ q) ++ 58 ∷ []) ++ p) ++ 125 ∷ [] ≡ f ++ 44 ∷ (q ++ 58 ∷ (p ++ 125 ∷ []))
+spread f q p =
+    append_assoc (((f ++ 44 ∷ []) ++ q) ++ 58 ∷ []) p (125 ∷ []) ∙ append_assoc ((f ++ 44 ∷ []) ++ q) (58 ∷ []) (p ++ 125 ∷ [])
+    ∙ append_assoc (f ++ 44 ∷ []) q (58 ∷ (p ++ 125 ∷ [])) ∙ append_assoc f (44 ∷ []) (q ++ 58 ∷ (p ++ 125 ∷ []))
+
+-- the text of an object without its brace, and then one more member, is that of the object with it
+pub text_with_one_more : (ms : Members) (name : Text) (t : Tree) → ms ≢ no_members
+    → ((((take (length (json_text (object ms)) - 1) (json_text (object ms)) ++ codes ",") ++ json_text (leaf (text name))) ++ codes ":") ++ json_text t) ++ codes "}"
+    ≡ json_text (object (with_last ms name t))
+text_with_one_more no_members name t some = absurd (some refl)
+text_with_one_more (member other u ms) name t some =
+    ap (λ f. ((((f ++ 44 ∷ []) ++ quoted name) ++ 58 ∷ []) ++ json_text t) ++ 125 ∷ []) (without_brace (member other u ms))
+    ∙ spread (opened (member other u ms)) (quoted name) (json_text t) ∙ sym (with_one_more other u ms name t)
+
+-- ---- a question has some members
+
+one_of_three : (o : Ordering) (a b c : Members) → a ≢ no_members → b ≢ no_members → c ≢ no_members → match_ordering o a b c ≢ no_members
+one_of_three Less a b c x y z = x
+one_of_three Equal a b c x y z = y
+one_of_three Greater a b c x y z = z
+
+some_member : (name : Text) (t : Tree) (ms : Members) → member name t ms ≢ no_members
+some_member name t ms e = cc e
+
+some_inserted : (ms : Members) (name : Text) (t : Tree) → inserted ms name t ≢ no_members
+some_inserted no_members name t = some_member name t no_members
+some_inserted (member other u ms) name t =
+    one_of_three (slice_cmp nat_cmp other name) (member other u (inserted ms name t)) (member name t ms) (member name t (member other u ms))
+    (some_member other u (inserted ms name t)) (some_member name t ms) (some_member name t (member other u ms))
+
+some_maybe : (ms : Members) (name : Text) (value : Option Text) → ms ≢ no_members → with_maybe ms name value ≢ no_members
+some_maybe ms name None some = some
+some_maybe ms name (Some value) some = some_inserted ms name (leaf (text value))
+
+pub some_asked : (whose : Text) (question : Question) → question_members whose question ≢ no_members
+some_asked whose question = some_maybe _ (codes "typ") question.header.typ (some_inserted _ (codes "text") (leaf (text question.text)))
