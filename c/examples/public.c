@@ -22,72 +22,61 @@ static const char policy[] =
     " \"binding\": {\"aud\": [\"https://verifier.example.org\"], \"nonce\": \"1234567890\", \"max_age\": 300,"
     " \"keys\": {\"keys\": []}}}";
 
-/* The public key of the issuer, that of RFC 9901. */
-static const char issuer[] = "{\"kty\":\"EC\",\"crv\":\"P-256\",\"x\":\"b28d4MwZMjw8-00CG4xfnn9SLMVMM19SlqZpVb_uNtQ\","
-                             "\"y\":\"Xv5zWwuoaTgdS6hV43yI6gBwTnjukmFQQnJ_kCxzqk8\"}";
+/* The public key of the issuer, that of RFC 9901: the members x and y of its JWK. */
+static const char *const issuer[] = {"b28d4MwZMjw8-00CG4xfnn9SLMVMM19SlqZpVb_uNtQ",
+                                     "Xv5zWwuoaTgdS6hV43yI6gBwTnjukmFQQnJ_kCxzqk8"};
 
-/* Behind a JSON text, which begins at its quote. What is read here is compact JSON, as the library writes it. */
-static const char *behind_text(const char *at) {
-    for (at++; *at != '"'; at++)
-        if (*at == '\\') at++;
-    return at + 1;
-}
+static uint8_t out[262144];
+static size_t len;
 
-static const char *behind_value(const char *at) {
-    int depth = 0;
-    do {
-        if (*at == '{' || *at == '[') depth++;
-        if (*at == '}' || *at == ']') depth--;
-        at = *at == '"' ? behind_text(at) : at + 1;
-    } while (depth > 0 || (*at != ',' && *at != '}' && *at != ']'));
-    return at;
-}
-
-/* The value of a member of an object, or NULL. */
-static const char *member(const char *object, const char *name) {
-    if (object == NULL || *object != '{') return NULL;
-    for (const char *at = object + 1; *at == '"';) {
-        const char *value = behind_text(at) + 1;
-        if (strncmp(at + 1, name, strlen(name)) == 0 && at[1 + strlen(name)] == '"') return value;
-        at = behind_value(value);
-        if (*at == ',') at++;
-    }
-    return NULL;
-}
-
-static int is(const char *value, const char *text) {
-    size_t len = strlen(text);
-    return value != NULL && *value == '"' && strncmp(value + 1, text, len) == 0 && value[1 + len] == '"';
-}
-
-/* Whether a value is the base64url text of just so many bytes. */
-static int decode(const char *value, uint8_t *bytes, size_t count) {
-    static const char letters[] = "ABCDEFGHIJKLMNOPQRSTUVWXYZabcdefghijklmnopqrstuvwxyz0123456789-_";
-    size_t done = 0;
+/* Whether letters are the base64url of 32 bytes. */
+static int decode(const char *letters, size_t count, uint8_t *bytes) {
+    static const char alphabet[] = "ABCDEFGHIJKLMNOPQRSTUVWXYZabcdefghijklmnopqrstuvwxyz0123456789-_";
     uint32_t bits = 0;
+    size_t done = 0;
     int held = 0;
-    if (value == NULL || *value != '"') return 0;
-    for (const char *at = value + 1; *at != '"'; at++) {
-        const char *letter = strchr(letters, *at);
+    if (count != 43) return 0;
+    for (size_t i = 0; i < count; i++) {
+        const char *letter = memchr(alphabet, letters[i], 64);
         if (letter == NULL) return 0;
-        bits = (bits << 6 | (uint32_t)(letter - letters)) & 0xFFF;
+        bits = (bits << 6 | (uint32_t)(letter - alphabet)) & 0xFFF;
         held += 6;
         if (held < 8) continue;
-        if (done == count) return 0;
         held -= 8;
         bytes[done++] = (uint8_t)(bits >> held);
     }
-    return done == count;
+    return 1;
 }
 
-/* The key of a JWK of the curve P-256, or NULL. */
-static EVP_PKEY *key_of(const char *jwk) {
-    uint8_t point[65] = {4};
+/* The string at a place of the question: its length, or 0 if there is none, or a longer one. */
+static size_t string_at(const char *place, char *string, size_t room) {
+    size_t string_len;
+    sdjwt_status status = sdjwt_question_at(out, len, (const uint8_t *)place, strlen(place), (uint8_t *)string, room,
+                                            &string_len);
+    return status == SDJWT_DONE ? string_len : 0;
+}
+
+static int is_at(const char *place, const char *string) {
+    char found[16];
+    return string_at(place, found, sizeof found) == strlen(string) && memcmp(found, string, strlen(string)) == 0;
+}
+
+/* The point of the issuer's key, or of the holder's, which is in the claim `cnf` of the payload of the question. */
+static int read_point(int is_holder, uint8_t *point) {
+    char x[64], y[64];
+    point[0] = 4;
+    if (!is_holder)
+        return decode(issuer[0], strlen(issuer[0]), point + 1) && decode(issuer[1], strlen(issuer[1]), point + 33);
+    return is_at("/payload/cnf/jwk/kty", "EC") && is_at("/payload/cnf/jwk/crv", "P-256") &&
+           decode(x, string_at("/payload/cnf/jwk/x", x, sizeof x), point + 1) &&
+           decode(y, string_at("/payload/cnf/jwk/y", y, sizeof y), point + 33);
+}
+
+/* The key of the curve P-256 with this point, or NULL. */
+static EVP_PKEY *key_of(uint8_t *point) {
     char group[] = "P-256";
-    if (!is(member(jwk, "kty"), "EC") || !is(member(jwk, "crv"), group)) return NULL;
-    if (!decode(member(jwk, "x"), point + 1, 32) || !decode(member(jwk, "y"), point + 33, 32)) return NULL;
     OSSL_PARAM parts[] = {OSSL_PARAM_construct_utf8_string(OSSL_PKEY_PARAM_GROUP_NAME, group, 0),
-                          OSSL_PARAM_construct_octet_string(OSSL_PKEY_PARAM_PUB_KEY, point, sizeof point),
+                          OSSL_PARAM_construct_octet_string(OSSL_PKEY_PARAM_PUB_KEY, point, 65),
                           OSSL_PARAM_construct_end()};
     EVP_PKEY_CTX *made = EVP_PKEY_CTX_new_from_name(NULL, "EC", NULL);
     EVP_PKEY *key = NULL;
@@ -99,7 +88,7 @@ static EVP_PKEY *key_of(const char *jwk) {
 }
 
 /* Whether r and s, 32 bytes each (RFC 7518 section 3.4), are a signature of a text with SHA-256. */
-static int is_good(EVP_PKEY *key, const uint8_t *pair, const char *text, size_t text_len) {
+static int is_good(EVP_PKEY *key, const uint8_t *pair, const uint8_t *text, size_t text_len) {
     ECDSA_SIG *signature = ECDSA_SIG_new();
     BIGNUM *r = BN_bin2bn(pair, 32, NULL), *s = BN_bin2bn(pair + 32, 32, NULL);
     uint8_t *der = NULL;
@@ -108,40 +97,40 @@ static int is_good(EVP_PKEY *key, const uint8_t *pair, const char *text, size_t 
         der_len = i2d_ECDSA_SIG(signature, &der);
     EVP_MD_CTX *digest = EVP_MD_CTX_new();
     if (digest != NULL && der_len > 0 && EVP_DigestVerifyInit(digest, NULL, EVP_sha256(), NULL, key) == 1)
-        good = EVP_DigestVerify(digest, der, (size_t)der_len, (const uint8_t *)text, text_len) == 1;
+        good = EVP_DigestVerify(digest, der, (size_t)der_len, text, text_len) == 1;
     EVP_MD_CTX_free(digest);
     OPENSSL_free(der);
     ECDSA_SIG_free(signature);
     return good;
 }
 
-/* What there is to say of the signature of a question. The holder's key is in the claim `cnf` of the payload. */
-static uint8_t answer(const char *question) {
-    int of_issuer = is(member(question, "ask"), "issuer");
-    EVP_PKEY *key = key_of(of_issuer ? issuer : member(member(member(question, "payload"), "cnf"), "jwk"));
-    const char *text = member(question, "text");
-    size_t text_len = (size_t)(behind_text(text) - text) - 2;
-    uint8_t pair[64];
+/* What there is to say of the signature of the question: first that of the issuer, then that of the holder. */
+static uint8_t answer(int is_holder) {
+    static uint8_t text[65536];
+    uint8_t point[65], pair[64], alg[16];
+    size_t text_len, pair_len, alg_len;
+    EVP_PKEY *key = read_point(is_holder, point) ? key_of(point) : NULL;
     if (key == NULL) return SDJWT_UNKNOWN;
-    /* the text is as it stands, if it has no escape of JSON; one with an escape was not signed by a JWS */
-    int good = is(member(question, "alg"), "ES256") && memchr(text, '\\', text_len) == NULL &&
-               decode(member(question, "signature"), pair, sizeof pair) && is_good(key, pair, text + 1, text_len);
+    int good = sdjwt_question_alg(out, len, alg, sizeof alg, &alg_len) == SDJWT_DONE &&
+               alg_len == 5 && memcmp(alg, "ES256", 5) == 0 &&
+               sdjwt_question_signature(out, len, pair, sizeof pair, &pair_len) == SDJWT_DONE && pair_len == 64 &&
+               sdjwt_question_text(out, len, text, sizeof text, &text_len) == SDJWT_DONE &&
+               is_good(key, pair, text, text_len);
     EVP_PKEY_free(key);
     return good ? SDJWT_GOOD : SDJWT_BAD;
 }
 
 int main(int count, char **words) {
-    static uint8_t token[65536], out[262144];
-    size_t token_len = fread(token, 1, sizeof token, stdin), len;
+    static uint8_t token[65536];
+    size_t token_len = fread(token, 1, sizeof token, stdin);
     uint64_t now = count > 1 ? strtoull(words[1], NULL, 10) : (uint64_t)time(NULL);
     uint8_t said[] = {SDJWT_UNSAID, SDJWT_UNSAID};
     sdjwt_status status;
     for (int next = 0;; next++) {
         status = sdjwt_judge((const uint8_t *)policy, strlen(policy), (const uint8_t *)"", 0, token, token_len, now,
-                             said[0], said[1], out, sizeof out - 1, &len);
+                             said[0], said[1], out, sizeof out, &len);
         if (status != SDJWT_ASKS || next == 2) break;
-        out[len] = 0;
-        said[next] = answer((const char *)out);
+        said[next] = answer(next == 1);
     }
     fwrite(out, 1, status == SDJWT_UNWRITTEN ? 0 : len, status == SDJWT_DONE ? stdout : stderr);
     return status;

@@ -56,22 +56,13 @@ static sdjwt_status issue(EVP_PKEY *key) {
     return sdjwt_issue_sign(asks, strlen(order), alg, 5, seed, sizeof seed, pair, sizeof pair, out, sizeof out, &len);
 }
 
-/* A text of the question, without escapes. In JSON each quote inside a text has a backslash before it. */
-static const char *text_of(const char *member, size_t *text_len) {
-    const char *at = strstr((const char *)out, member);
-    *text_len = at == NULL ? 0 : strcspn(at + strlen(member), "\"");
-    return at == NULL ? NULL : at + strlen(member);
-}
-
 /* Whether the signature of the question, of r and s, is one of its text by ES256, which is all that the order takes. */
 static int is_good(EVP_PKEY *key) {
-    uint8_t letters[89], pair[66], *der = NULL;
-    size_t word_len, text_len;
-    const char *word = text_of("\"signature\":\"", &word_len), *text = text_of("\"text\":\"", &text_len);
-    if (word_len != 86) return 0;
-    for (size_t i = 0; i < 88; i++)
-        letters[i] = (uint8_t)(i >= word_len ? '=' : word[i] == '-' ? '+' : word[i] == '_' ? '/' : word[i]);
-    if (EVP_DecodeBlock(pair, letters, 88) != 66) return 0;
+    static uint8_t text[65536];
+    uint8_t pair[64], *der = NULL;
+    size_t pair_len, text_len;
+    if (sdjwt_question_signature(out, len, pair, sizeof pair, &pair_len) != SDJWT_DONE || pair_len != 64) return 0;
+    if (sdjwt_question_text(out, len, text, sizeof text, &text_len) != SDJWT_DONE) return 0;
     int der_len = 0, good = 0;
     ECDSA_SIG *signature = ECDSA_SIG_new();
     BIGNUM *r = BN_bin2bn(pair, 32, NULL), *s = BN_bin2bn(pair + 32, 32, NULL);
@@ -79,7 +70,7 @@ static int is_good(EVP_PKEY *key) {
         der_len = i2d_ECDSA_SIG(signature, &der);
     EVP_MD_CTX *digest = EVP_MD_CTX_new();
     if (digest != NULL && der_len > 0 && EVP_DigestVerifyInit(digest, NULL, EVP_sha256(), NULL, key) == 1)
-        good = EVP_DigestVerify(digest, der, (size_t)der_len, (const uint8_t *)text, text_len) == 1;
+        good = EVP_DigestVerify(digest, der, (size_t)der_len, text, text_len) == 1;
     EVP_MD_CTX_free(digest);
     OPENSSL_free(der);
     ECDSA_SIG_free(signature);
@@ -90,9 +81,8 @@ static sdjwt_status present(EVP_PKEY *key, EVP_PKEY *issuer, const uint8_t *toke
     const uint8_t *asks = (const uint8_t *)wish;
     uint64_t now = (uint64_t)time(NULL);
     uint8_t said = SDJWT_UNSAID, pair[64];
-    sdjwt_status status = sdjwt_present_ask(asks, strlen(wish), token, token_len, now, said, out, sizeof out - 1, &len);
+    sdjwt_status status = sdjwt_present_ask(asks, strlen(wish), token, token_len, now, said, out, sizeof out, &len);
     if (status == SDJWT_ASKS) {
-        out[len] = 0;
         said = is_good(issuer) ? SDJWT_GOOD : SDJWT_BAD;
         status = sdjwt_present_ask(asks, strlen(wish), token, token_len, now, said, out, sizeof out, &len);
     }
