@@ -13,11 +13,13 @@ set -eu
 install=no
 look=
 proved=
+is_proved=1
 for word; do
     case $word in
         --install) install=yes ;;
         --look)
             look=--look
+            is_proved=0
             proved=', of a library that is not proved'
             ;;
         *) echo 'usage: sh c/check.sh [--look] [--install]' >&2; exit 2 ;;
@@ -33,6 +35,8 @@ made=$(mktemp -d)
 trap 'rm -rf "$made"' EXIT
 trap 'exit 1' HUP INT TERM
 strict='-std=c11 -Wall -Wextra -Wpedantic -Werror -g -O1 -pthread'
+version=$(sed -n 's/^version = "\(.*\)"$/\1/p' "$here/../python/pyproject.toml")
+due="-DVERSION=\"$version\" -DPROVED=$is_proved"
 
 # Counts what ran, and what was skipped with the reason for it. With --install nothing may be.
 ran=0
@@ -51,13 +55,14 @@ run() {
 has() { command -v "$1" >/dev/null; }
 
 python3 "$here/tests/vectors.py" "$made/vectors"
-echo '#include "sdjwt.h"' >"$made/alone.c"
+printf '#include "sdjwt.h"\nextern sdjwt_policy handle;\nsdjwt_policy handle = SDJWT_POLICY_INIT;\n' >"$made/alone.c"
 for standard in c99 c11 c17; do
     run "$CC" -std=$standard -Wall -Wextra -Wpedantic -Werror -I"$here/out/include" -c -o "$made/alone.o" "$made/alone.c"
 done
 cp "$made/alone.c" "$made/alone.cpp"
 if has "$CXX"; then
-    run "$CXX" -std=c++11 -Wall -Wextra -Wpedantic -Werror -I"$here/out/include" -c -o "$made/alone.o" "$made/alone.cpp"
+    run "$CXX" -std=c++11 -Wall -Wextra -Wpedantic -Wmissing-field-initializers -Wzero-as-null-pointer-constant -Werror \
+        -I"$here/out/include" -c -o "$made/alone.o" "$made/alone.cpp"
 else
     skip "the header in C++ (no $CXX)"
 fi
@@ -66,7 +71,7 @@ fi
 compile() {
     output=$1
     shift
-    "$CC" $strict -I"$here/out/include" "$here/tests/calls.c" "$@" -o "$made/$output"
+    "$CC" $strict $due -I"$here/out/include" "$here/tests/calls.c" "$@" -o "$made/$output"
 }
 
 compile sanitized -fsanitize=address,undefined -fno-sanitize-recover=all "$lib/libsdjwt.a"
@@ -115,8 +120,8 @@ else
 fi
 
 if has pkg-config; then
-    # shellcheck disable=SC2046 # words
-    "$CC" -std=c11 -pthread "$here/tests/calls.c" \
+    # shellcheck disable=SC2046,SC2086 # words
+    "$CC" -std=c11 -pthread $due "$here/tests/calls.c" \
         $(PKG_CONFIG_PATH=$lib/pkgconfig pkg-config --cflags --libs sdjwt) -o "$made/by_pkg_config"
     run env LD_LIBRARY_PATH="$lib" "$made/by_pkg_config" "$made/vectors" 1
 else

@@ -5,10 +5,11 @@
 LIBRARY is a built libsdjwt.so, as c/build.sh leaves it in c/out/lib. The reading is tests/reference; for the calls
 whose caller checks and makes the signatures it stands here, by docs/SPECIFICATION.md, docs/FILES.md and c/sdjwt.h. Each
 case is one call, named by a command, at one moment. What a caller says of a signature is drawn too, so that a question
-comes, or a verdict over what was said, or none. What is judged under a policy is judged by a handle of it as well. The
-command presented_to_caller is the law of this name: a token that a caller signs is presented, which another one signs,
-and judged by a third, who is told the payload of the order without the places not chosen. Cases are grown, compared,
-shrunk and counted as those of tests/fuzz.py, but more come in a second: no program is run.
+comes, or a verdict over what was said, or none; of a question each part is compared. What is judged under a policy is
+judged by a handle of it as well. The command presented_to_caller is the law of this name: a token that a caller signs
+is presented, which another one signs, and judged by a third, who is told the payload of the order without the places
+not chosen. Cases are grown, compared, shrunk and counted as those of tests/fuzz.py, but more come in a second: no
+program is run.
 """
 
 import ctypes
@@ -32,7 +33,7 @@ from texts import HASHES, at, carried, decode, digest_of, encode, is_whole, read
 from tokens import Token, read_content, read_header, read_token  # noqa: E402
 from verify import Judged, choose, holder_kid, judge_binding, judge_claims, process  # noqa: E402
 
-DONE, REFUSED, USAGE, UNWRITTEN, UNREADABLE, ASKS, NOT_ASKED, TO_SIGN = 0, 1, 2, 4, 6, 7, 8, 9
+DONE, REFUSED, USAGE, UNWRITTEN, UNREADABLE, ASKS, NOT_ASKED, TO_SIGN, MISSING = 0, 1, 2, 4, 6, 7, 8, 9, 10
 UNSAID, UNKNOWN, BAD, GOOD = 0, 1, 2, 3
 NOW = 1_800_000_000
 FORMS = ("compact", "flat", "general")
@@ -64,9 +65,15 @@ class Caller:
         refuse(bad, decode(jwt[2]) is None)
         word = self.words.pop(0)
         if word == UNSAID:
-            raise Ended(ASKS, write({**question, "text": f"{jwt[0]}.{jwt[1]}", "signature": jwt[2]}) + "\n")
+            raise Ended(ASKS, question_line({**question, "text": f"{jwt[0]}.{jwt[1]}", "signature": jwt[2]}))
         refuse(unknown, word == UNKNOWN)
         refuse(bad, word == BAD)
+
+
+def question_line(members: Dict[str, Any]) -> str:
+    """The line of a question: the members by their names, and the payload behind them."""
+    front = write({name: value for name, value in members.items() if name != "payload"})
+    return (f'{front[:-1]},"payload":{write(members["payload"])}}}' if "payload" in members else front) + "\n"
 
 
 def is_taken(alg: str, algs: List[str]) -> bool:
@@ -310,6 +317,22 @@ class Library:
         """What a call answers over these inputs."""
         return self.call(call, *parameters_of(call, list(inputs)))
 
+    def part(self, name: str, question: bytes, *more: bytes) -> Answer:
+        """A part of a question."""
+        given = [each for data in (question, *more) for each in (c_char_p(data), c_size_t(len(data)))]
+        return self.call("question_" + name, *given)
+
+    def by_parts(self, question: bytes) -> Tuple[Answer, Answer]:
+        """A part of a question, and what it has to be by the reading: the first that is another, or the last."""
+        said = read(question)
+        told = [(name, self.part(name, question)) for name in ("text", "alg", "kid")]
+        told += [(name, self.part("at", question, b"/" + name.encode())) for name in ("ask", "typ")]
+        due = {name: value.encode() for name, value in said.items() if isinstance(value, str)}
+        due["signature"] = decode(said["signature"]) or b""
+        pairs = [(answer, Answer(DONE, due[name], "") if name in due else Answer(MISSING, b"", ""))
+                 for name, answer in (*told, ("signature", self.part("signature", question)))]
+        return next((pair for pair in pairs if pair[0] != pair[1]), pairs[-1])
+
     def presented_to_caller(self, files: Dict[str, bytes]) -> Tuple[Answer, Answer]:
         """What the last of three callers is told, each of whom calls all signatures good, and what is due."""
         order, asked, policy, alg = files["order.json"], files["asked.json"], files["policy.json"], files["alg.txt"]
@@ -340,7 +363,7 @@ class Library:
         told = self.call(call, *parameters)
         if call in ("verify", "judge") and told == answer and told.status != USAGE:
             told = self.by_handle(call, inputs[0], parameters[2:])
-        return told, answer
+        return self.by_parts(told.output) if told == answer and told.status == ASKS else (told, answer)
 
 
 class LibraryCases(Cases):

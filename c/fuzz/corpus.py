@@ -5,7 +5,7 @@
     python3 c/fuzz/corpus.py --keep FOLDER    puts those of FOLDER/CALL into found.tar.xz, for each call that is there
 
 Each run of a vector of vectors/ is an input: the files that it reads, with a zero byte between two. One of verify is one
-of judge too, with what is said of the signatures. What an earlier run keeps is found by tests/reference. To these come
+of judge too, with what is said of the signatures, and one of nonce. The parts of a question are those of a few. What an earlier run keeps is found by tests/reference. To these come
 cases that tests/fuzz.py and tests/library.py grow. Runs of other commands, of files that are not there, of files with a
 zero byte, and of more than 16 KiB are left out. found.tar.xz has what a fuzzer found beside these: texts that reach
 other code.
@@ -29,7 +29,13 @@ import write  # noqa: E402
 FOUND = Path(__file__).resolve().parent / "found.tar.xz"
 CALLS = ("verify", "present", "issue", "show", "split", "convert", "audit", "wallet")
 OF_CALLERS = {"judge": "judge", "issue_ask": "ask", "issue_sign": "sign", "present_ask": "step", "present_sign": "sent"}
-ALL_CALLS = (*CALLS, *OF_CALLERS.values(), "policy")
+ALL_CALLS = (*CALLS, *OF_CALLERS.values(), "policy", "nonce", "part")
+# Questions, and bytes that are none.
+QUESTIONS = (
+    b'{"alg":"ES256","ask":"issuer","kid":"k","signature":"AAEC","text":"eyJhbGciOiJFUzI1NiJ9.e30"}\n',
+    b'{"alg":"ES256","ask":"holder","signature":"AA","text":"a.b","typ":"kb+jwt","payload":{"cnf":{"jwk":{"x":"A"}},"text":1}}\n',
+    b'{"alg":"\\u00e9\\"","kid":null,"signature":"A=","text":[]}', b"notAsked\n", b"[1]", b'{"text":1.5}', b"")
+POINTERS = (b"/payload/cnf/jwk/x", b"/a~1b/0", b"text", b"")
 GROWN = 200
 LONGEST = 16_384
 
@@ -74,6 +80,8 @@ def inputs(vector):
         if call == "verify" and len(parts) == 2 and None not in parts:
             for said in ((library.UNSAID, library.UNSAID), (library.GOOD, library.UNSAID), (library.GOOD, library.GOOD)):
                 yield "judge", [parts[0], b'["HS256"]', parts[1], *(b"x" * word for word in said)]
+            for nonce in (b"4711", b"n" * 257):
+                yield "nonce", [*parts, nonce]
         if call == "issue" and len(parts) == 2 and None not in parts:
             asked = [without_key(parts[0]), b"ES256", parts[1]]
             yield "ask", asked
@@ -103,6 +111,14 @@ def of_vectors():
             yield from joined(call, parts)
 
 
+def of_questions():
+    """The inputs of the parts of questions, as such pairs."""
+    for question in QUESTIONS:
+        for which in range(5):
+            for pointer in POINTERS if which == 0 else POINTERS[:1]:
+                yield from joined("part", [question, pointer, b"x" * which])
+
+
 def of_growers():
     """The inputs that are grown, as such pairs."""
     for number in range(GROWN):
@@ -129,14 +145,14 @@ def of_fuzzers():
 def write_inputs(folder):
     for call in ALL_CALLS:
         (folder / call).mkdir(parents=True, exist_ok=True)
-    for call, data in (*of_vectors(), *of_growers(), *of_fuzzers()):
+    for call, data in (*of_vectors(), *of_questions(), *of_growers(), *of_fuzzers()):
         (folder / call / name_of(data)).write_bytes(data)
     print(", ".join(f"{call.name}: {len(list(call.iterdir()))}" for call in sorted(folder.iterdir())))
 
 
 def keep(folder):
     """The new archive: what is in the folder and in no vector and not grown, and the old inputs of calls not in it."""
-    known = {*of_vectors(), *of_growers()}
+    known = {*of_vectors(), *of_questions(), *of_growers()}
     new = {(call.name, path.read_bytes()) for call in folder.iterdir() for path in call.iterdir()} - known
     calls = {call.name for call in folder.iterdir()}
     kept = sorted(new | {(call, data) for call, data in of_fuzzers() if call not in calls})

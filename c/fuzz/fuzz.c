@@ -2,13 +2,14 @@
  * Fuzzes one call of the C library, by libFuzzer: c/fuzz/run.sh builds it and tells how.
  *
  * The environment's SDJWT_FUZZ names the call: verify, judge, present, issue, ask, sign, step, sent, show, split, convert,
- * audit, wallet or policy. An input is the files of the call, with a zero byte between two: what stands for its order,
- * policy or query, then its tokens; for ask and sign the name of the algorithm, the seed and the signature; for judge the
- * algorithms, the token and two words on signatures, for step one word, which are lengths; for sent the holder's
- * signature. Each comes to the call in memory of its own and of just its length. What the header promises of an answer is
- * checked: its status, its length, the bytes behind it, and that a call with just as much room answers the same. A call
- * may take a second of the processor, and at one time 64 MiB of memory. Two calls take more, by which c/fuzz/run.sh sees
- * that this is told: slow and large.
+ * audit, wallet, policy, nonce or part. An input is the files of the call, with a zero byte between two: what stands for
+ * its order, policy or query, then its tokens; for ask and sign the name of the algorithm, the seed and the signature;
+ * for judge the algorithms, the token and two words on signatures, for step one word, which are lengths; for sent the
+ * holder's signature; for nonce the policy, the token and the nonce; for part the question, a pointer, and which part it
+ * is, which is a length. Each comes to the call in memory of its own and of just its length. What the header promises of
+ * an answer is checked: its status, its length, the bytes behind it, and that a call with just as much room answers the
+ * same. A call may take a second of the processor, and at one time 64 MiB of memory. Two calls take more, by which
+ * c/fuzz/run.sh sees that this is told: slow and large.
  */
 #include "sdjwt.h"
 
@@ -168,6 +169,40 @@ static sdjwt_status call_policy(const input *given, uint8_t *out, size_t room, s
     return status;
 }
 
+/* Under a policy whose nonce is set, if it takes one. Under one that takes none, what sdjwt_verify says stays. */
+static sdjwt_status call_nonce(const input *given, uint8_t *out, size_t room, size_t *len) {
+    text policy = part(given, 0), token = part(given, 1), nonce = part(given, 2);
+    sdjwt_policy handle = SDJWT_POLICY_INIT;
+    check(sdjwt_policy_nonce(&handle, nonce.bytes, nonce.len) == SDJWT_USAGE, "a nonce of no policy");
+    sdjwt_status status = sdjwt_policy_new(&handle, policy.bytes, policy.len, out, room, len);
+    if (status == SDJWT_DONE) {
+        sdjwt_status set = sdjwt_policy_nonce(&handle, nonce.bytes, nonce.len);
+        check(set == SDJWT_DONE || set == SDJWT_USAGE, "there is no such status of a nonce");
+        check(set == SDJWT_USAGE || nonce.len <= 256, "a nonce that is too long");
+        status = sdjwt_policy_verify(&handle, token.bytes, token.len, NOW, out, room, len);
+        size_t other_len = 0;
+        uint8_t *other = malloc(room + 1);
+        if (set == SDJWT_USAGE) {
+            sdjwt_status other_status = call_verify(given, other, room, &other_len);
+            check_same(status, out, *len, other_status, other, other_len);
+        }
+        free(other);
+    }
+    sdjwt_policy_free(&handle);
+    return status;
+}
+
+static sdjwt_status call_part(const input *given, uint8_t *out, size_t room, size_t *len) {
+    text question = part(given, 0), pointer = part(given, 1);
+    switch (part(given, 2).len) {
+    case 0: return sdjwt_question_at(question.bytes, question.len, pointer.bytes, pointer.len, out, room, len);
+    case 1: return sdjwt_question_text(question.bytes, question.len, out, room, len);
+    case 2: return sdjwt_question_signature(question.bytes, question.len, out, room, len);
+    case 3: return sdjwt_question_alg(question.bytes, question.len, out, room, len);
+    default: return sdjwt_question_kid(question.bytes, question.len, out, room, len);
+    }
+}
+
 /* The seconds that this thread has had of the processor, so that a busy machine fails no call. */
 static double seconds(void) {
     struct timespec used;
@@ -214,6 +249,7 @@ static const struct {
     {"verify", call_verify}, {"judge", call_judge}, {"present", call_present}, {"issue", call_issue}, {"ask", call_ask},
     {"sign", call_sign}, {"step", call_step}, {"sent", call_sent}, {"show", call_show}, {"split", call_split},
     {"convert", call_convert}, {"audit", call_audit}, {"wallet", call_wallet}, {"policy", call_policy},
+    {"nonce", call_nonce}, {"part", call_part},
     {"slow", call_slow}, {"large", call_large},
 };
 
@@ -256,16 +292,18 @@ static sdjwt_status with_room(const input *given, size_t room, uint8_t **out, si
     if (is_written(status)) {
         check(*len <= room, "an answer is longer than its room");
         int is_line = *len == 0 || (*out)[*len - 1] == '\n', is_signed = chosen == call_ask && status == SDJWT_DONE;
-        check(is_line != (is_signed || status == SDJWT_TO_SIGN), "an answer does not end its line, or a text has an end");
+        check((chosen == call_part && status == SDJWT_DONE) || is_line != (is_signed || status == SDJWT_TO_SIGN),
+              "an answer does not end its line, or a text has an end");
         written = *len;
     } else if (status == SDJWT_UNWRITTEN) {
         check(*len > room, "an answer that has room is not written");
     } else {
-        check(status == SDJWT_USAGE || status == SDJWT_MEMORY, "there is no such status");
+        check(status == SDJWT_USAGE || status == SDJWT_MEMORY || (chosen == call_part && status == SDJWT_MISSING),
+              "there is no such status");
         check(*len == 0, "nothing was written, and its length is not 0");
     }
     for (size_t i = written; i < room + SPARE; i++) {
-        check((*out)[i] == 0xa5 || chosen == call_policy, "a byte behind the answer is another one");
+        check((*out)[i] == 0xa5 || chosen == call_policy || chosen == call_nonce, "a byte behind the answer is another one");
     }
     return status;
 }

@@ -306,8 +306,8 @@ static void judging(void) {
 #define BY_SHARED "eyJhbGciOiJIUzI1NiJ9.eyJhIjoxfQ.AA~eyJhbGciOiJIUzI1NiIsInR5cCI6ImtiK2p3dCJ9.e30.AA"
 #define BY_NONE "eyJhbGciOiJub25lIn0.eyJhIjoxfQ.AA~eyJhbGciOiJIUzI1NiIsInR5cCI6ImtiK2p3dCJ9.e30.AA"
 #define SHARED_QUESTION "{\"alg\":\"HS256\",\"ask\":\"issuer\",\"signature\":\"AA\",\"text\":\"eyJhbGciOiJIUzI1NiJ9.eyJhIjoxfQ\"}\n"
-#define HOLDER_QUESTION "{\"alg\":\"HS256\",\"ask\":\"holder\",\"payload\":{\"a\":1},\"signature\":\"AA\"," \
-    "\"text\":\"eyJhbGciOiJIUzI1NiIsInR5cCI6ImtiK2p3dCJ9.e30\",\"typ\":\"kb+jwt\"}\n"
+#define HOLDER_QUESTION "{\"alg\":\"HS256\",\"ask\":\"holder\",\"signature\":\"AA\"," \
+    "\"text\":\"eyJhbGciOiJIUzI1NiIsInR5cCI6ImtiK2p3dCJ9.e30\",\"typ\":\"kb+jwt\",\"payload\":{\"a\":1}}\n"
 #define DOOR(words) "{\"keys\":{\"keys\":[]}" words ",\"binding\":{\"aud\":\"v\",\"nonce\":\"n\",\"max_age\":0,\"keys\":{\"keys\":[]}}}"
 
 /* What is told of them: a list has to name HS256, as one that is missing does, and none can name none. */
@@ -450,6 +450,168 @@ static void presenting(void) {
     free(zeros);
 }
 
+/*
+ * A presentation that wants the nonce "m" and the moment 0, with claims of the names of a question's members, and the
+ * question about its holder's signature.
+ */
+#define HOLDERS_TEXT "eyJhbGciOiJIUzI1NiIsInR5cCI6ImtiK2p3dCJ9." \
+    "eyJhdWQiOiJ2IiwiaWF0IjowLCJub25jZSI6Im0iLCJzZF9oYXNoIjoiZFY0aWVGZTc2OFpKeC00LXNCRTQ4dFJyQjhKTko3S19ET0I5YjFLdENPUSJ9"
+#define NAMES_SHOWN "eyJhbGciOiJIUzI1NiJ9.eyJzaWduYXR1cmUiOiJaWiIsInRleHQiOiJubyJ9.AA~" HOLDERS_TEXT ".AA"
+#define NAMES_QUESTION "{\"alg\":\"HS256\",\"ask\":\"holder\",\"signature\":\"AA\",\"text\":\"" HOLDERS_TEXT "\"," \
+    "\"typ\":\"kb+jwt\",\"payload\":{\"signature\":\"ZZ\",\"text\":\"no\"}}\n"
+
+/* The parts of a question by their names; at a pointer, if it begins with another letter. */
+static sdjwt_status take(const char *name, const char *question, size_t question_len, uint8_t *out, size_t room,
+                         size_t *len) {
+    uint8_t *given = room_of(question_len);
+    memcpy(given, question, question_len);
+    sdjwt_status status;
+    if (strcmp(name, "text") == 0) status = sdjwt_question_text(given, question_len, out, room, len);
+    else if (strcmp(name, "signature") == 0) status = sdjwt_question_signature(given, question_len, out, room, len);
+    else if (strcmp(name, "alg") == 0) status = sdjwt_question_alg(given, question_len, out, room, len);
+    else if (strcmp(name, "kid") == 0) status = sdjwt_question_kid(given, question_len, out, room, len);
+    else status = sdjwt_question_at(given, question_len, (const uint8_t *)name, strlen(name), out, room, len);
+    free(given);
+    return status;
+}
+
+#define TEXT(text) (text), sizeof(text) - 1
+#define NOT_JSON TEXT("unreadable 1 notJson\n")
+static const struct {
+    const char *name, *question;
+    sdjwt_status status;
+    const char *part;
+    size_t part_len;
+} takings[] = {
+    {"text", judged_question, SDJWT_DONE, TEXT("eyJhbGciOiJFUzI1NiJ9.eyJhIjoxfQ")},
+    {"signature", judged_question, SDJWT_DONE, TEXT("\0")},
+    {"alg", judged_question, SDJWT_DONE, TEXT("ES256")},
+    {"kid", judged_question, SDJWT_MISSING, TEXT("")},
+    {"/ask", judged_question, SDJWT_DONE, TEXT("issuer")},
+    {"/payload/a", judged_question, SDJWT_MISSING, TEXT("")},
+    {"text", NAMES_QUESTION, SDJWT_DONE, TEXT(HOLDERS_TEXT)},
+    {"signature", NAMES_QUESTION, SDJWT_DONE, TEXT("\0")},
+    {"/payload/signature", NAMES_QUESTION, SDJWT_DONE, TEXT("ZZ")},
+    {"/payload/text", NAMES_QUESTION, SDJWT_DONE, TEXT("no")},
+    {"/text", NAMES_QUESTION, SDJWT_DONE, TEXT(HOLDERS_TEXT)},
+    {"/payload", NAMES_QUESTION, SDJWT_MISSING, TEXT("")},
+    {"/payload/", NAMES_QUESTION, SDJWT_MISSING, TEXT("")},
+    {"", NAMES_QUESTION, SDJWT_MISSING, TEXT("")},
+    {"no pointer", NAMES_QUESTION, SDJWT_MISSING, TEXT("")},
+    {"/~", NAMES_QUESTION, SDJWT_MISSING, TEXT("")},
+    {"/text\xff", NAMES_QUESTION, SDJWT_USAGE, TEXT("")},
+    {"kid", "{\"kid\":\"\"}", SDJWT_DONE, TEXT("")},
+    {"kid", "{\"kid\":\"a\\u0000\\\"\\u00e9\"}", SDJWT_DONE, TEXT("a\0\"\xc3\xa9")},
+    {"kid", "{\"kid\":1}", SDJWT_MISSING, TEXT("")},
+    {"text", "{}", SDJWT_MISSING, TEXT("")},
+    {"signature", "{\"signature\":\"\"}", SDJWT_DONE, TEXT("")},
+    {"signature", "{\"signature\":\"A\"}", SDJWT_MISSING, TEXT("")},
+    {"signature", "{\"signature\":\"AB\"}", SDJWT_MISSING, TEXT("")},
+    {"signature", "{\"signature\":\"A=\"}", SDJWT_MISSING, TEXT("")},
+    {"signature", "{\"signature\":\"AQ\"}", SDJWT_DONE, TEXT("\1")},
+    {"/list/1", "{\"list\":[1,\"b\"]}", SDJWT_DONE, TEXT("b")},
+    {"/a~1b/~0", "{\"a/b\":{\"~\":\"c\"}}", SDJWT_DONE, TEXT("c")},
+    {"text", "", SDJWT_UNREADABLE, NOT_JSON},
+    {"signature", "{\"text\":\"\xff\"}", SDJWT_UNREADABLE, NOT_JSON},
+    {"alg", "[\"alg\"]", SDJWT_UNREADABLE, TEXT("unreadable 1 notObject\n")},
+    {"kid", "{\"payload\":1.5}", SDJWT_UNREADABLE, TEXT("unreadable 1 notWhole\n")},
+    {"/text", "notAsked\n", SDJWT_UNREADABLE, NOT_JSON},
+};
+
+/* Each part with a room that just fits, one that is larger and those that are too small. */
+static void taking(void) {
+    for (size_t i = 0; i < sizeof takings / sizeof *takings; i++) {
+        const char *question = takings[i].question, *part = takings[i].part;
+        size_t due = takings[i].part_len, sizes[] = {due, due + BEHIND, due ? due - 1 : 0, 0};
+        for (int which = 0; which < 4; which++) {
+            size_t room = sizes[which], len = 12345;
+            uint8_t *out = room_of(room);
+            memset(out, FILL, room);
+            sdjwt_status status = take(takings[i].name, question, strlen(question), out, room, &len);
+            CHECK(len == due, question);
+            if (room < due) CHECK(status == SDJWT_UNWRITTEN && is_filled(out, 0, room), question);
+            else CHECK(status == takings[i].status, question);
+            if (room >= due) CHECK(memcmp(out, part, due) == 0 && is_filled(out, due, room), question);
+            free(out);
+        }
+    }
+}
+
+/* A question that is cut anywhere is none, unless only its line end is cut off. */
+static void cutting(void) {
+    static const char *const names[] = {"text", "signature", "alg", "kid", "/payload/text"};
+    uint8_t out[512];
+    size_t whole = strlen(NAMES_QUESTION), len;
+    for (size_t cut = 0; cut < whole; cut++)
+        for (size_t i = 0; i < sizeof names / sizeof *names; i++) {
+            sdjwt_status status = take(names[i], NAMES_QUESTION, cut, out, sizeof out, &len);
+            if (cut + 1 == whole) CHECK(status == (i == 3 ? SDJWT_MISSING : SDJWT_DONE), "without its line end");
+            else CHECK(status == SDJWT_UNREADABLE && len == strlen("unreadable 1 notJson\n"), "a question that is cut");
+        }
+}
+
+/* What is told of the presentation that wants the nonce "m". */
+static void told_by(sdjwt_policy *handle, sdjwt_status due, const char *text) {
+    uint8_t out[512];
+    size_t len;
+    sdjwt_status status = sdjwt_policy_judge(handle, (const uint8_t *)"", 0, (const uint8_t *)NAMES_SHOWN,
+                                             strlen(NAMES_SHOWN), 0, SDJWT_GOOD, SDJWT_GOOD, out, sizeof out, &len);
+    CHECK(status == due && len == strlen(text) && memcmp(out, text, len) == 0, text);
+}
+
+static sdjwt_status set_nonce(sdjwt_policy *handle, const char *nonce, size_t nonce_len) {
+    uint8_t *given = room_of(nonce_len);
+    memcpy(given, nonce, nonce_len);
+    sdjwt_status status = sdjwt_policy_nonce(handle, given, nonce_len);
+    free(given);
+    return status;
+}
+
+static void *set_there(void *handle) {
+    CHECK(set_nonce(handle, "m", 1) == SDJWT_DONE, "on another thread");
+    return NULL;
+}
+
+/* A nonce counts for the calls that follow, and one that is not taken leaves the one before. */
+static void nonces(void) {
+    static const char claims[] = "{\"signature\":\"ZZ\",\"text\":\"no\"}\n", differs[] = "refused 35 nonceDiffers\n";
+    sdjwt_policy handle = SDJWT_POLICY_INIT, none = SDJWT_POLICY_INIT, unbound = SDJWT_POLICY_INIT;
+    char long_nonce[257];
+    uint8_t out[512];
+    size_t len;
+    pthread_t thread;
+    memset(long_nonce, 'm', sizeof long_nonce);
+    CHECK(sdjwt_policy_new(&handle, (const uint8_t *)DOOR(""), strlen(DOOR("")), out, 0, &len) == SDJWT_DONE, "a policy");
+    CHECK(sdjwt_policy_new(&unbound, (const uint8_t *)judged_policy, strlen(judged_policy), out, 0, &len) == SDJWT_DONE,
+          "one without a binding");
+    CHECK(set_nonce(&none, "m", 1) == SDJWT_USAGE && none.held == NULL, "no policy");
+    void *held = unbound.held;
+    CHECK(set_nonce(&unbound, "m", 1) == SDJWT_USAGE && unbound.held == held, "no binding");
+    CHECK(set_nonce(&unbound, long_nonce, 257) == SDJWT_USAGE && unbound.held == held, "no binding, and too long");
+    CHECK(sdjwt_policy_judge(&handle, (const uint8_t *)"", 0, (const uint8_t *)NAMES_SHOWN, strlen(NAMES_SHOWN), 0,
+                             SDJWT_GOOD, SDJWT_UNSAID, out, sizeof out, &len) == SDJWT_ASKS, "a question");
+    CHECK(len == strlen(NAMES_QUESTION) && memcmp(out, NAMES_QUESTION, len) == 0, "the payload stands at its end");
+    told_by(&handle, SDJWT_REFUSED, differs);
+    CHECK(set_nonce(&handle, "m", 1) == SDJWT_DONE, "a nonce");
+    told_by(&handle, SDJWT_DONE, claims);
+    CHECK(set_nonce(&handle, long_nonce, 257) == SDJWT_USAGE, "too long");
+    told_by(&handle, SDJWT_DONE, claims);
+    CHECK(set_nonce(&handle, "m\xff", 2) == SDJWT_USAGE && set_nonce(&handle, "\xc3", 1) == SDJWT_USAGE, "no UTF-8");
+    told_by(&handle, SDJWT_DONE, claims);
+    CHECK(set_nonce(&handle, long_nonce, 256) == SDJWT_DONE, "as long as may be");
+    told_by(&handle, SDJWT_REFUSED, differs);
+    CHECK(set_nonce(&handle, "", 0) == SDJWT_DONE, "of no bytes");
+    told_by(&handle, SDJWT_REFUSED, differs);
+    CHECK(set_nonce(&handle, "m\0", 2) == SDJWT_DONE, "with a zero byte");
+    told_by(&handle, SDJWT_REFUSED, differs);
+    CHECK(pthread_create(&thread, NULL, set_there, &handle) == 0 && pthread_join(thread, NULL) == 0, "a thread");
+    told_by(&handle, SDJWT_DONE, claims);
+    sdjwt_policy_free(&handle);
+    CHECK(set_nonce(&handle, "m", 1) == SDJWT_USAGE && handle.held == NULL, "it was freed");
+    sdjwt_policy_free(&unbound);
+    sdjwt_policy_free(NULL);
+}
+
 /* A handle that another thread made is used here, and freed. */
 static void *take_over(void *handle) {
     uint8_t line[128];
@@ -549,7 +711,9 @@ static const struct vector *verifying(uint64_t status) {
 int main(int count, char **words) {
     CHECK(count >= 2, "usage: calls VECTORS [THREADS [small]]");
     size_t threads = count > 2 ? strtoul(words[2], NULL, 10) : 8;
-    CHECK(sdjwt_abi_version() == SDJWT_ABI_VERSION, "the version");
+    CHECK(sdjwt_abi_version() == SDJWT_ABI_VERSION, "the version of what is exported");
+    CHECK(strcmp(sdjwt_version(), VERSION) == 0, "the version");
+    CHECK(sdjwt_is_proved() == PROVED, "whether it is proved");
     CHECK(sizeof(sdjwt_policy) == sizeof(void *), "a handle is one pointer");
     read_vectors(words[1]);
     empty_inputs();
@@ -558,6 +722,9 @@ int main(int count, char **words) {
     listing();
     signing();
     presenting();
+    taking();
+    cutting();
+    nonces();
     for (int refused = 0; refused < 2; refused++) {
         const struct vector *vector = verifying(refused ? SDJWT_REFUSED : SDJWT_DONE);
         const struct run *run = &vector->runs[0];

@@ -54,7 +54,7 @@ struct text {
     size_t len;
 };
 
-static struct text order, seed, present, policy, token, shown;
+static struct text order, seed, present, policy, token, shown, question;
 
 static void read_file(const char *folder, const char *name, struct text *into) {
     char path[4096];
@@ -103,30 +103,70 @@ static sdjwt_status ask_to_present(int is_signed, uint8_t said, struct text *out
     return sdjwt_present_sign(given, strlen(wish), shows, strlen(held), NOW, said, (const uint8_t *)"s", 1, out->bytes, ROOM, &out->len);
 }
 
-static sdjwt_status call(int which, struct text *out) {
+/* The calls. Those of a handle stand together, with its policy read first. */
+enum {
+    ISSUE, PRESENT, VERIFY, REFUSED_VERIFY, SHOW, SPLIT, CONVERT, AUDIT, WALLET, POLICY_NEW, POLICY_VERIFY, POLICY_NONCE,
+    JUDGE_ASKS, JUDGE, ISSUE_ASK, ISSUE_SIGN, PRESENT_ASKS, PRESENT_ASK, PRESENT_SIGN, QUESTION_TEXT, QUESTION_SIGNATURE,
+    QUESTION_ALG, QUESTION_KID, QUESTION_AT, CALLS
+};
+
+/* A part of the question that JUDGE_ASKS wrote. */
+static sdjwt_status take(int which, struct text *out) {
+    static const char place[] = "/a~1b";
+    const uint8_t *asked = question.bytes;
     switch (which) {
-    case 0: return sdjwt_issue(order.bytes, order.len, seed.bytes, seed.len, out->bytes, ROOM, &out->len);
-    case 1: return sdjwt_present(present.bytes, present.len, token.bytes, token.len, NOW, out->bytes, ROOM, &out->len);
-    case 2: return sdjwt_verify(policy.bytes, policy.len, shown.bytes, shown.len, NOW, out->bytes, ROOM, &out->len);
-    case 3: return sdjwt_show(token.bytes, token.len, out->bytes, ROOM, &out->len);
-    case 4: return sdjwt_split(token.bytes, token.len, out->bytes, ROOM, &out->len);
-    case 5: return sdjwt_convert(SDJWT_GENERAL, token.bytes, token.len, out->bytes, ROOM, &out->len);
-    case 6: return sdjwt_policy_new(&handle, policy.bytes, policy.len, out->bytes, ROOM, &out->len);
-    case 7: return sdjwt_policy_verify(&handle, shown.bytes, shown.len, NOW, out->bytes, ROOM, &out->len);
-    case 8: return sdjwt_audit(order.bytes, order.len, token.bytes, token.len, out->bytes, ROOM, &out->len);
-    case 9: return ask_wallet(out);
-    case 10: return ask_signature(SDJWT_UNSAID, out);
-    case 11: return ask_signature(SDJWT_GOOD, out);
-    case 12: return ask_for(0, out);
-    case 13: return ask_for(1, out);
-    case 14: return ask_to_present(0, SDJWT_UNSAID, out);
-    case 15: return ask_to_present(0, SDJWT_GOOD, out);
-    case 16: return ask_to_present(1, SDJWT_GOOD, out);
-    default: return sdjwt_verify(policy.bytes, policy.len, token.bytes, token.len, NOW, out->bytes, ROOM, &out->len);
+    case QUESTION_TEXT: return sdjwt_question_text(asked, question.len, out->bytes, ROOM, &out->len);
+    case QUESTION_SIGNATURE: return sdjwt_question_signature(asked, question.len, out->bytes, ROOM, &out->len);
+    case QUESTION_ALG: return sdjwt_question_alg(asked, question.len, out->bytes, ROOM, &out->len);
+    case QUESTION_KID: return sdjwt_question_kid(asked, question.len, out->bytes, ROOM, &out->len);
+    default:
+        return sdjwt_question_at((const uint8_t *)"{\"a/b\":\"c\"}", 11, (const uint8_t *)place, strlen(place), out->bytes,
+                                 ROOM, &out->len);
     }
 }
 
-#define CALLS 18
+/* It writes no text. */
+static sdjwt_status set_nonce(struct text *out) {
+    out->len = 0;
+    return sdjwt_policy_nonce(&handle, (const uint8_t *)"another", 7);
+}
+
+static sdjwt_status call(int which, struct text *out) {
+    uint8_t *to = out->bytes;
+    size_t *len = &out->len;
+    switch (which) {
+    case ISSUE: return sdjwt_issue(order.bytes, order.len, seed.bytes, seed.len, to, ROOM, len);
+    case PRESENT: return sdjwt_present(present.bytes, present.len, token.bytes, token.len, NOW, to, ROOM, len);
+    case VERIFY: return sdjwt_verify(policy.bytes, policy.len, shown.bytes, shown.len, NOW, to, ROOM, len);
+    case REFUSED_VERIFY: return sdjwt_verify(policy.bytes, policy.len, token.bytes, token.len, NOW, to, ROOM, len);
+    case SHOW: return sdjwt_show(token.bytes, token.len, to, ROOM, len);
+    case SPLIT: return sdjwt_split(token.bytes, token.len, to, ROOM, len);
+    case CONVERT: return sdjwt_convert(SDJWT_GENERAL, token.bytes, token.len, to, ROOM, len);
+    case AUDIT: return sdjwt_audit(order.bytes, order.len, token.bytes, token.len, to, ROOM, len);
+    case WALLET: return ask_wallet(out);
+    case POLICY_NEW: return sdjwt_policy_new(&handle, policy.bytes, policy.len, to, ROOM, len);
+    case POLICY_VERIFY: return sdjwt_policy_verify(&handle, shown.bytes, shown.len, NOW, to, ROOM, len);
+    case POLICY_NONCE: return set_nonce(out);
+    case JUDGE_ASKS: return ask_signature(SDJWT_UNSAID, out);
+    case JUDGE: return ask_signature(SDJWT_GOOD, out);
+    case ISSUE_ASK: return ask_for(0, out);
+    case ISSUE_SIGN: return ask_for(1, out);
+    case PRESENT_ASKS: return ask_to_present(0, SDJWT_UNSAID, out);
+    case PRESENT_ASK: return ask_to_present(0, SDJWT_GOOD, out);
+    case PRESENT_SIGN: return ask_to_present(1, SDJWT_GOOD, out);
+    default: return take(which, out);
+    }
+}
+
+static sdjwt_status due_of(int which) {
+    switch (which) {
+    case REFUSED_VERIFY: return SDJWT_REFUSED;
+    case JUDGE_ASKS: case PRESENT_ASKS: return SDJWT_ASKS;
+    case PRESENT_ASK: return SDJWT_TO_SIGN;
+    case QUESTION_KID: return SDJWT_MISSING;
+    default: return SDJWT_DONE;
+    }
+}
 
 int main(int count, char **words) {
     static struct text due, out;
@@ -136,13 +176,14 @@ int main(int count, char **words) {
     read_file(words[1], "seed.txt", &seed);
     read_file(words[1], "present.json", &present);
     read_file(words[1], "policy.json", &policy);
-    CHECK(call(0, &token) == SDJWT_DONE && call(1, &shown) == SDJWT_DONE, "the walk");
+    CHECK(call(ISSUE, &token) == SDJWT_DONE && call(PRESENT, &shown) == SDJWT_DONE, "the walk");
+    CHECK(call(JUDGE_ASKS, &question) == SDJWT_ASKS, "a question");
     for (int which = 0; which < CALLS; which++) {
         refused = 0;
         sdjwt_status status = call(which, &due);
-        CHECK(status == (which == CALLS - 1 ? SDJWT_REFUSED : which == 10 || which == 14 ? SDJWT_ASKS : which == 15 ? SDJWT_TO_SIGN : SDJWT_DONE), "the call");
+        CHECK(status == due_of(which), "the call");
         long held = taken;
-        CHECK(which == 6 || which == 7 ? held > 0 : held == 0, "what it keeps");
+        CHECK(POLICY_NEW <= which && which <= POLICY_NONCE ? held > 0 : held == 0, "what it keeps");
         for (refused = 1;; refused++) {
             requests = 0;
             memset(out.bytes, 0xA5, ROOM);
@@ -157,7 +198,7 @@ int main(int count, char **words) {
             if (requests < refused) break;
         }
         all += refused - 1;
-        if (which == 7) sdjwt_policy_free(&handle);
+        if (which == POLICY_NONCE) sdjwt_policy_free(&handle);
     }
     CHECK(taken == 0, "all is freed");
     printf("%lu requests refused\n", all);

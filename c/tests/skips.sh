@@ -9,10 +9,11 @@ made=$(mktemp -d)
 trap 'rm -rf "$made"' EXIT
 trap 'exit 1' HUP INT TERM
 
-mkdir "$made/c" "$made/bin" "$made/away"
+mkdir "$made/c" "$made/python" "$made/bin" "$made/away"
+echo 'version = "1"' >"$made/python/pyproject.toml"
 cp "$here/../check.sh" "$made/c/"
 echo 'exit 0' >"$made/c/build.sh"
-for tool in sh env dirname mktemp rm cp chmod; do ln -s "$(command -v "$tool")" "$made/bin/$tool"; done
+for tool in sh env dirname mktemp rm cp chmod sed; do ln -s "$(command -v "$tool")" "$made/bin/$tool"; done
 # it makes each file that -o names a program that does nothing
 cat >"$made/bin/cc" <<'END'
 #!/bin/sh
