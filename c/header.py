@@ -1,9 +1,10 @@
 #!/usr/bin/env python3
 """Checks that sdjwt.h declares what crates/sdjwt_c exports and c/built.c adds, with parameters that fit, and no more.
 
-A slice is a pointer and a length to C, an allocator is nothing, and a handle is a struct of one pointer.
-With libraries as its arguments, it also checks that they export just these names. With --calls it prints, in Rattle, a
-`main` of that crate that calls each function once: c/build.sh --look has it compiled, and with it the functions.
+A slice is a pointer and a length to C, an allocator is nothing, and a handle is a struct of one pointer. The table of
+docs/C.md has to have each function once. With libraries as its arguments, it also checks that they export just these
+names. With --calls it prints, in Rattle, a `main` of that crate that calls each function once: c/build.sh --look has it
+compiled, and with it the functions.
 """
 import pathlib
 import re
@@ -99,6 +100,9 @@ def main():
     code, header = {**exported(), **added()}, declared()
     faults = [f"{name}: the library has {code.get(name)}, the header {header.get(name)}"
               for name in sorted({*code, *header}) if code.get(name) != header.get(name)]
+    listed = re.findall(r"^\| `(sdjwt_\w+)` \|", (TOP / "docs/C.md").read_text(encoding="utf-8"), re.M)
+    faults += [f"docs/C.md: the table of the functions has {name} {listed.count(name)} times"
+               for name in sorted({*header, *listed}) if listed.count(name) != (name in header)]
     for library in sys.argv[1:]:
         names = of_library(library)
         # a shared library exports nothing else; an archive also has the code below
