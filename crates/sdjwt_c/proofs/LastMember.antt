@@ -1,6 +1,8 @@
 -- The text of an object with a member behind its others.
 use Rattle.std.proofs.Common.{◌≡◌, ◌≢◌, ℕ, ◌-◌, ◌<◌, List, [], ◌∷◌, ◌++◌, Bool, true, false, Option, Some, None, length, take, refl, sym, ap, ◌∙◌, subst, append_assoc, length-append, arith}
-use Rattle.std.specs.Prelude.{codes, slice_index}
+use Rattle.std.specs.Prelude.{codes, slice_index, string_bytes, string_len}
+use Rattle.std.specs.declared.alloc.Global.{Global}
+use Rattle.std.specs.declared.string.String.{String}
 use Rattle.std.specs.Ordering.{nat_cmp, match_ordering}
 use Rattle.std.specs.Cmp.Lexicographic.{slice_cmp}
 use Rattle.std.specs.declared.cmp.Ordering.{Ordering}
@@ -59,10 +61,10 @@ opened ms = 123 ∷ open_text false ms
 closes : (ms : Members) → json_text (object ms) ≡ opened ms ++ 125 ∷ []
 closes ms = ap (λ s. 123 ∷ s) (closed false ms)
 
-pub is_some_text : (ms : Members) → 0 < length (json_text (object ms))
+is_some_text : (ms : Members) → 0 < length (json_text (object ms))
 is_some_text ms = subst (λ (whole : List ℕ). 0 < length whole) (sym (closes ms)) (some_of (opened ms) 125)
 
-pub ends_by_brace : (ms : Members) → slice_index (json_text (object ms)) (length (json_text (object ms)) - 1) ≡ 125
+ends_by_brace : (ms : Members) → slice_index (json_text (object ms)) (length (json_text (object ms)) - 1) ≡ 125
 ends_by_brace ms = subst (λ (whole : List ℕ). slice_index whole (length whole - 1) ≡ 125) (sym (closes ms)) (last_of (opened ms) 125)
 
 without_brace : (ms : Members) → take (length (json_text (object ms)) - 1) (json_text (object ms)) ≡ opened ms
@@ -86,6 +88,21 @@ text_with_one_more no_members name t some = absurd (some refl)
 text_with_one_more (member other u ms) name t some =
     ap (λ f. ((((f ++ 44 ∷ []) ++ quoted name) ++ 58 ∷ []) ++ json_text t) ++ 125 ∷ []) (without_brace (member other u ms))
     ∙ spread (opened (member other u ms)) (quoted name) (json_text t) ∙ sym (with_one_more other u ms name t)
+
+-- what is left of bytes whose last is a brace, where it is taken off
+cut_off : (bytes after whole : List ℕ) (len : ℕ) → bytes ≡ whole → len ≡ length whole → 0 < length whole → slice_index whole (length whole - 1) ≡ 125
+    → (0 < len → slice_index bytes (len - 1) < 128 → after ≡ take (len - 1) bytes) → after ≡ take (length whole - 1) whole
+cut_off bytes after whole len is same some last pops =
+    let by_bytes : 0 < len → slice_index whole (len - 1) < 128 → after ≡ take (len - 1) whole = subst (λ (b : List ℕ). 0 < len → slice_index b (len - 1) < 128 → after ≡ take (len - 1) b) is pops in
+    let by_len : 0 < length whole → slice_index whole (length whole - 1) < 128 → after ≡ take (length whole - 1) whole = subst (λ (l : ℕ). 0 < l → slice_index whole (l - 1) < 128 → after ≡ take (l - 1) whole) same by_bytes in
+    by_len some (omega (arith, last))
+
+-- the string of an object whose last character was popped
+pub without_last : (old new : String Global) (ms : Members) → string_bytes old ≡ json_text (object ms)
+    → (0 < string_len old → slice_index (string_bytes old) (string_len old - 1) < 128 → string_bytes new ≡ take (string_len old - 1) (string_bytes old))
+    → string_bytes new ≡ take (length (json_text (object ms)) - 1) (json_text (object ms))
+without_last old new ms is pops =
+    cut_off (string_bytes old) (string_bytes new) (json_text (object ms)) (string_len old) is (old.bytes.ok.0 ∙ ap length is) (is_some_text ms) (ends_by_brace ms) pops
 
 -- ---- a question has some members
 
