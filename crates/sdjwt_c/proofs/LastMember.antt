@@ -1,19 +1,14 @@
 -- The text of an object with a member behind its others.
-use Rattle.std.proofs.Common.{◌≡◌, ◌≢◌, ℕ, ◌-◌, ◌<◌, List, [], ◌∷◌, ◌++◌, Bool, true, false, Option, Some, None, length, take, refl, sym, ap, ◌∙◌, subst, append_assoc, length-append, arith}
+use Rattle.std.proofs.Common.{◌≡◌, ◌≢◌, ℕ, ◌-◌, ◌<◌, List, [], ◌∷◌, ◌++◌, Bool, true, false, length, take, refl, sym, ap, ◌∙◌, subst, append_assoc, length-append, arith}
 use Rattle.std.specs.Prelude.{codes, slice_index, string_bytes, string_len}
 use Rattle.std.specs.declared.alloc.Global.{Global}
 use Rattle.std.specs.declared.string.String.{String}
-use Rattle.std.specs.Ordering.{nat_cmp, match_ordering}
-use Rattle.std.specs.Cmp.Lexicographic.{slice_cmp}
-use Rattle.std.specs.declared.cmp.Ordering.{Ordering}
-use Rattle.std.specs.declared.cmp.Ordering.TheVariants.{Less, Equal, Greater}
 use Rattle.std.proofs.lemmas.List.{take_at, get_or_at}
 use Rattle.json.specs.Print.{quoted}
 use Rattle.serde_json.specs.Written.{comma_if, members_text}
-use Rattle.claim_tree.specs.Tree.{Text, text, Tree, leaf, object, Members, no_members, member, inserted}
+use Rattle.claim_tree.specs.Tree.{Text, text, Tree, leaf, object, Members, no_members, member}
 use Rattle.claim_tree.specs.JsonText.{members_data, json_text}
-use Rattle.verifier_core.specs.declared.asking.Question.{Question}
-use Rattle.sdjwt_c.specs.Questions.{with_text, with_maybe, with_asked, question_members, with_last}
+use Rattle.sdjwt_c.specs.Questions.{with_last}
 
 -- ---- the front of a list, and its last element
 
@@ -103,26 +98,3 @@ pub without_last : (old new : String Global) (ms : Members) → string_bytes old
     → string_bytes new ≡ take (length (json_text (object ms)) - 1) (json_text (object ms))
 without_last old new ms is pops =
     cut_off (string_bytes old) (string_bytes new) (json_text (object ms)) (string_len old) is (old.bytes.ok.0 ∙ ap length is) (is_some_text ms) (ends_by_brace ms) pops
-
--- ---- a question has some members
-
-one_of_three : (o : Ordering) (a b c : Members) → a ≢ no_members → b ≢ no_members → c ≢ no_members → match_ordering o a b c ≢ no_members
-one_of_three Less a b c x y z = x
-one_of_three Equal a b c x y z = y
-one_of_three Greater a b c x y z = z
-
-some_member : (name : Text) (t : Tree) (ms : Members) → member name t ms ≢ no_members
-some_member name t ms e = cc e
-
-some_inserted : (ms : Members) (name : Text) (t : Tree) → inserted ms name t ≢ no_members
-some_inserted no_members name t = some_member name t no_members
-some_inserted (member other u ms) name t =
-    one_of_three (slice_cmp nat_cmp other name) (member other u (inserted ms name t)) (member name t ms) (member name t (member other u ms))
-    (some_member other u (inserted ms name t)) (some_member name t ms) (some_member name t (member other u ms))
-
-some_maybe : (ms : Members) (name : Text) (value : Option Text) → ms ≢ no_members → with_maybe ms name value ≢ no_members
-some_maybe ms name None some = some
-some_maybe ms name (Some value) some = some_inserted ms name (leaf (text value))
-
-pub some_asked : (whose : Text) (question : Question) → question_members whose question ≢ no_members
-some_asked whose question = some_maybe _ (codes "typ") question.header.typ (some_inserted _ (codes "text") (leaf (text question.text)))

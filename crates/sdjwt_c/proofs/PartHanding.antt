@@ -16,7 +16,7 @@ use Rattle.sdjwt_c.proofs.Handing.{given, handed_reply}
 
 -- the text at the one path of a pointer is that at the pointer
 pub text_of_path : (tree : Tree) (pointer : Text) (path : List Text) (said : Option Text) → pointer ≡ pointer_text path → said ≡ text_at tree path → IsTextAt tree pointer said
-text_of_path tree pointer path (Some said) is found = (path, (is, sym found))
+text_of_path tree pointer path (Some said) is found = (path, is, sym found)
 text_of_path tree pointer path None is found =
     λ other other_is. subst (λ (p : List Text). text_at tree p ≡ None) (pointer_text-injective path other (sym is ∙ other_is)) (sym found)
 
