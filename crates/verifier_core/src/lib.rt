@@ -27,7 +27,7 @@ mod verdict;
 pub use asking::{Answers, JudgeError, Judgement, Question, judge, question_on};
 pub use binding_file::AGE_MAX;
 pub use content::Content;
-pub use policy::{Policy, SKEW_MAX, read_policy};
+pub use policy::{NonceError, Policy, SKEW_MAX, read_policy};
 pub use policy_version::{AUDIENCES_MAX, PolicyVersion};
 pub use refusals::fault_line;
 pub use rules::{Issuers, Rules};
