@@ -1,5 +1,5 @@
 -- What a policy file says with a nonce set, the same file with that nonce says.
-use Rattle.std.proofs.Common.{◌≡◌, ◌≢◌, ⊎_elim, ◌≤◌, List, [], ◌∷◌, length, true, Option, Some, None, codes, option_map, refl, sym, ap, subst, ◌∙◌}
+use Rattle.std.proofs.Common.{◌≡◌, ◌≢◌, ⊎_elim, ◌≤◌, [], ◌∷◌, length, true, Option, Some, None, codes, option_map, refl, sym, ap, subst, ◌∙◌}
 use Rattle.sd_outside.specs.Limits.{age_max, binding_text_max, file_max, skew_max}
 use Rattle.claim_tree.specs.Tree.{Text, text, leaf, object, Tree, members_len, names, member_named}
 use Rattle.sd_outside.specs.Lists.{In}
