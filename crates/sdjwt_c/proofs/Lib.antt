@@ -8,3 +8,4 @@ pub mod Signings
 pub mod Presentings
 pub mod LastMember
 pub mod PartHanding
+pub mod NonceSetting

@@ -4,6 +4,7 @@ pub mod Judging
 pub mod JudgingSteps
 pub mod Numbers
 pub mod Policies
+pub mod PolicySteps
 pub mod Questions
 pub mod QuestionParts
 pub mod QuestionPartSteps

@@ -1,11 +1,13 @@
 -- Not needed to believe the program's promises: the replies to a policy that is
 -- to be kept, and under one that is.
-use Rattle.std.specs.Prelude.{◌≡◌, ℕ, List, []}
+use Rattle.std.specs.Prelude.{◌≡◌, ◌≤◌, ℕ, List, [], length, Option, Some, IsSome, IsSomeAnd}
+use Rattle.std.specs.Str.{IsUtf8}
+use Rattle.sd_outside.specs.Limits.{binding_text_max}
 use Rattle.cli_parts.specs.Replies.{Reply, Replies}
 use Rattle.sdjwt_cli.specs.Verify.{VerifiesUnder, DoesNotVerifyUnder}
 use Rattle.cli_parts.specs.Telling.{TellsFileFault}
 use Rattle.verifier_core.specs.declared.policy.Policy.{Policy}
-use Rattle.verifier_core.specs.PolicyFile.{IsPolicyFile, IsPolicyFileRefused}
+use Rattle.verifier_core.specs.PolicyFile.{IsPolicyFile, IsPolicyFileRefused, with_nonce}
 
 -- the file says a policy, and there is no more to tell
 pub record IsReadPolicy (file text : List ℕ) : Type 0 where
@@ -22,3 +24,22 @@ PolicyAnswers file reply =
 abbrev pub UnderAnswers : Policy → List ℕ → ℕ → Reply → Type 0
 UnderAnswers policy token now reply =
     Replies (VerifiesUnder policy token now) (DoesNotVerifyUnder policy token now) (λ _. ⊥) reply
+
+-- ---- the nonce of a policy
+
+-- the policy asks for a key binding token, and the nonce is a text that is not too long
+pub record TakesNonce (nonce : List ℕ) (policy : Policy) : Type 0 where
+  pub binding : IsSome policy.binding
+  pub utf8 : IsUtf8 nonce
+  pub short : length nonce ≤ binding_text_max
+
+-- by the number: the policy of the handle has this nonce, or is as it was, where the call is misused
+-- or there is no memory
+pub data SetsNonce (before : Option Policy) (nonce : List ℕ) (after : Option Policy) (number : ℕ)
+    : Type 0 where
+  set : (policy : Policy) → before ≡ Some policy → TakesNonce nonce policy
+      → after ≡ Some (with_nonce policy nonce) → number ≡ 0 → SetsNonce before nonce after number
+  misused : (IsSomeAnd before (TakesNonce nonce) → ⊥) → after ≡ before → number ≡ 2
+      → SetsNonce before nonce after number
+  no_memory : IsSomeAnd before (TakesNonce nonce) → after ≡ before → number ≡ 5
+      → SetsNonce before nonce after number

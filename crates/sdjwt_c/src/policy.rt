@@ -2,10 +2,12 @@
 //!
 //! A handle holds a policy or none. C begins with one of zeros, which holds
 //! none, and ends with [`sdjwt_policy_free`].
-ghost use Rattle.std.specs.Prelude.{◌≡◌, ◌≢◌, None, IsSomeAnd};
+ghost use Rattle.std.specs.Prelude.{◌≡◌, ◌≢◌, None, Some, IsSomeAnd};
+ghost use Rattle.sd_outside.specs.Status.{status_number};
 ghost use Rattle.sdjwt_c.specs.Handed.{HandsBy};
 ghost use Rattle.verifier_core.specs.PolicyFile.{IsPolicyFile};
-ghost use Rattle.sdjwt_c.specs.Policies.{PolicyAnswers, UnderAnswers};
+ghost use Rattle.sdjwt_c.specs.Policies.{PolicyAnswers, UnderAnswers, SetsNonce};
+ghost use Rattle.sdjwt_c.specs.PolicySteps.{nonce_number};
 
 use crate::answer::{hand, leave};
 use crate::boxed::{put, read, take};
@@ -13,6 +15,7 @@ use crate::handle::SdjwtPolicy;
 use sd_outside::Status;
 use sdjwt_cli::commands;
 use std::alloc::Global;
+use verifier_core::{NonceError, Policy};
 
 /// Reads a policy, which the handle holds from then on in place of what it held. Where it is none,
 /// the handle holds what it held before. The answer is empty.
@@ -60,6 +63,43 @@ pub extern "C" fn sdjwt_policy_verify(
     let answer = commands::verify_under(alloc, &policy, token, now);
     put(handle, policy);
     hand(answer, room, len).number()
+}
+
+// The status of a nonce that was to be set.
+fn nonce_status(set: Result<(), NonceError>) -> Status
+    ensures { status_number result ≡ nonce_number set }
+{
+    match set {
+        Ok(()) => Status::Done,
+        Err(NonceError::Memory) => Status::Memory,
+        Err(NonceError::NoBinding) => Status::Usage,
+        Err(NonceError::TooLong) => Status::Usage,
+    }
+}
+
+// Sets the nonce of a policy, where it takes it.
+fn with_nonce(alloc: Global, policy: &mut Policy, nonce: &str) -> Status
+    ensures { SetsNonce (Some policy.old) nonce.now (Some policy.new) (status_number result) }
+{
+    nonce_status(policy.set_nonce(alloc, nonce))
+}
+
+/// Sets the nonce that the policy of the handle wants of a key binding token, for the calls that
+/// follow. The call is misused where the handle holds none, where its policy asks for no key binding
+/// token, and where the nonce is no UTF-8 or has more than 256 bytes.
+#[unsafe(no_mangle)]
+pub extern "C" fn sdjwt_policy_nonce(alloc: Global, handle: &mut SdjwtPolicy, nonce: &[u8]) -> u8
+    ensures { SetsNonce handle.old.held nonce.now handle.new.held result }
+{
+    let Ok(nonce) = str::from_utf8(nonce) else {
+        return Status::Usage.number();
+    };
+    let Some(mut held) = take(alloc, handle) else {
+        return Status::Usage.number();
+    };
+    let status = with_nonce(alloc, &mut held, nonce);
+    put(handle, held);
+    status.number()
 }
 
 /// Frees the policy of the handle, which holds none from then on.
