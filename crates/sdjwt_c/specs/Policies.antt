@@ -1,6 +1,6 @@
 -- Not needed to believe the program's promises: the replies to a policy that is
 -- to be kept, and under one that is.
-use Rattle.std.specs.Prelude.{◌≡◌, ◌≤◌, ℕ, List, [], length, Option, Some, IsSome, IsSomeAnd}
+use Rattle.std.specs.Prelude.{◌≡◌, ◌<◌, ◌≤◌, ℕ, List, [], length, Option, None, Some, IsSome, IsNone}
 use Rattle.std.specs.Str.{IsUtf8}
 use Rattle.sd_outside.specs.Limits.{binding_text_max}
 use Rattle.cli_parts.specs.Replies.{Reply, Replies}
@@ -33,13 +33,21 @@ pub record TakesNonce (nonce : List ℕ) (policy : Policy) : Type 0 where
   pub utf8 : IsUtf8 nonce
   pub short : length nonce ≤ binding_text_max
 
+-- why a handle takes no such nonce
+pub data IsNotTaken (held : Option Policy) (nonce : List ℕ) : Type 0 where
+  no_policy : held ≡ None → IsNotTaken held nonce
+  no_binding : (policy : Policy) → held ≡ Some policy → IsNone policy.binding
+      → IsNotTaken held nonce
+  no_text : (IsUtf8 nonce → ⊥) → IsNotTaken held nonce
+  too_long : binding_text_max < length nonce → IsNotTaken held nonce
+
 -- by the number: the policy of the handle has this nonce, or is as it was, where the call is misused
 -- or there is no memory
 pub data SetsNonce (before : Option Policy) (nonce : List ℕ) (after : Option Policy) (number : ℕ)
     : Type 0 where
   set : (policy : Policy) → before ≡ Some policy → TakesNonce nonce policy
       → after ≡ Some (with_nonce policy nonce) → number ≡ 0 → SetsNonce before nonce after number
-  misused : (IsSomeAnd before (TakesNonce nonce) → ⊥) → after ≡ before → number ≡ 2
+  misused : IsNotTaken before nonce → after ≡ before → number ≡ 2
       → SetsNonce before nonce after number
-  no_memory : IsSomeAnd before (TakesNonce nonce) → after ≡ before → number ≡ 5
-      → SetsNonce before nonce after number
+  no_memory : (policy : Policy) → before ≡ Some policy → TakesNonce nonce policy
+      → after ≡ before → number ≡ 5 → SetsNonce before nonce after number
