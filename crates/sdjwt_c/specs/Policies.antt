@@ -41,8 +41,8 @@ pub data IsNotTaken (held : Option Policy) (nonce : List ℕ) : Type 0 where
   no_text : (IsUtf8 nonce → ⊥) → IsNotTaken held nonce
   too_long : binding_text_max < length nonce → IsNotTaken held nonce
 
--- by the number: the policy of the handle has this nonce, or is as it was, where the call is misused
--- or there is no memory
+-- by the number: the policy of the handle has this nonce, or is as it was, where the call is
+-- misused or there is no memory
 pub data SetsNonce (before : Option Policy) (nonce : List ℕ) (after : Option Policy) (number : ℕ)
     : Type 0 where
   set : (policy : Policy) → before ≡ Some policy → TakesNonce nonce policy

@@ -85,8 +85,8 @@ fn with_nonce(alloc: Global, policy: &mut Policy, nonce: &str) -> Status
 }
 
 /// Sets the nonce that the policy of the handle wants of a key binding token, for the calls that
-/// follow. The call is misused where the handle holds none, where its policy asks for no key binding
-/// token, and where the nonce is no UTF-8 or has more than 256 bytes.
+/// follow. The call is misused where the handle holds none, where its policy asks for no key
+/// binding token, and where the nonce is no UTF-8 or has more than 256 bytes.
 #[unsafe(no_mangle)]
 pub extern "C" fn sdjwt_policy_nonce(alloc: Global, handle: &mut SdjwtPolicy, nonce: &[u8]) -> u8
     ensures { SetsNonce handle.old.held nonce.now handle.new.held result }
