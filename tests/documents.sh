@@ -100,7 +100,8 @@ recipes() {
     cp examples/walk/order.json "$made/recipes/"
     echo '{"binding": {"nonce": "NONCE"}}' >"$made/recipes/policy.in"
     awk '/^## / { on = $0 == "## Keys and seeds of your own"; next } on && sub(/^    /, "")' README.md >"$made/readme"
-    awk '/^\*\*A nonce/ { on = 1 } /^\*\*Files\./ { on = 0 } on && sub(/^    /, "")' docs/FILES.md >"$made/files"
+    awk '/^\*\*A nonce/ { on = 1 } /^\*\*Files\./ { on = 0 } on && /^```/ { code = !code; next } on && code' \
+        docs/FILES.md >"$made/files"
     awk '/^A key, and a token/ { on = 1 } /^\.Ed/ { on = 0 } on && /^[^.A]/' docs/sdjwt.1 >"$made/manual"
     grep -Eo '\(umask 077; .* > (key\.txt|seed\.bin)\)' docs/FILES.md >"$made/keys"
     for recipe in readme files manual keys; do
