@@ -3,6 +3,7 @@
 
     sdjwt-explain 17                                   the entry of a number
     sdjwt-explain wrong binding                        the entry of a name or a reason
+    sdjwt-explain usage                                the commands of sdjwt and sdjwt_tools
     sdjwt-explain refused 73                           the entry of the front of a line
     sdjwt-explain refused 73 consentRefused at 0       the entry of a whole line
     sdjwt-explain unreadable 1 notJson policy.json     the same, and where this file is wrong
