@@ -10,9 +10,8 @@ FILE = Path(__file__).resolve().parent / "src/sdjwt/refusals.json"
 
 
 def entries(page):
-    """What the page says of each line with a number, and of each file that is not of its form."""
-    return {heading: said for heading, said in explain.sections(page).items()
-            if heading.startswith(("refused ", "unreadable "))}
+    """What the page says of each line."""
+    return explain.sections(page)
 
 
 def main():

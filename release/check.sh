@@ -214,7 +214,7 @@ programs() {
             [ "$status $(cat /srv/line)" = "2 usage" ]
         done
         command -v sdjwt'
-    holds "$1: the walk of README.md" inside "python3 examples/walk.py $2/sdjwt"
+    holds "$1: the walk of docs/WALK.md" inside "python3 examples/walk.py $2/sdjwt"
     holds "$1: the vectors" inside "python3 vectors/run.py $2/sdjwt --at '$at'"
     holds "$1: the audit" inside "SDJWT_TOOLS=$2/sdjwt_tools sh examples/audit.sh"
     holds "$1: the wallet" inside "SDJWT=$2/sdjwt SDJWT_TOOLS=$2/sdjwt_tools sh examples/wallet.sh"
@@ -265,7 +265,7 @@ assert tried.attempted and not tried.failed'"
 
 if [ "$bare_made" = yes ]; then
     mkdir "$bare/srv/repository" "$bare/srv/files"
-    git -C "$top" archive HEAD README.md examples vectors |
+    git -C "$top" archive HEAD README.md docs/WALK.md examples vectors |
         tar -x -f - -C "$bare/srv/repository"
     cp "$out"/* "$bare/srv/files/"
     # shellcheck disable=SC2016 # the marks of a text
