@@ -28,8 +28,8 @@ IS_INSTALLED = INSTALLED.is_dir() and HERE.name == "bin"
 PAGE = INSTALLED / "REFUSALS.md" if IS_INSTALLED else HERE.parent / "docs/REFUSALS.md"
 CASES = HERE.parent / "examples/refusals/cases.txt"
 PARTS = {"Means": "explanation", "Likely cause": "cause", "What to do": "remedy"}
-# An entry of the page: a heading with the lines below it, or a row of a table. Then the marks of the parts of an entry, and
-# what is dropped from them: the mark of an element of a list, and where a link leads.
+# An entry of the page: a heading with the lines below it, or a row of a table. Then the marks between its parts, and what
+# is dropped from them: the mark of an element of a list, and the target of a link.
 ENTRY = r"^### ([\w ]+?)(?: <a .*)?\n((?:(?!#).*\n)*)|^\| `([A-Za-z_ ]+)` \| ([^|]+) \| ([^|]+) \| ([^|]+) \|$"
 MARKS = r"\n- \*(?:Cause|Remedy):\* "
 DROPPED = r"^ +- |\[([^]]*)\]\([^)]*\)"
