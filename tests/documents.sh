@@ -121,6 +121,7 @@ if has python3; then
     holds python3 docs/core.py --check
     holds python3 docs/contracts.py --check
     holds python3 docs/facts.py
+    holds python3 docs/links.py
     holds python3 docs/width.py
     holds python3 docs/picture.py
     holds python3 vectors/write.py --check

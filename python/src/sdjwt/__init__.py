@@ -173,7 +173,7 @@ def verify(
     ...     print(refused.number, refused.name, refused.place)
     ...     print(refused.explanation)
     25 expired None
-    The moment of the claim `exp` has come: the token is valid no longer.
+    The time of the claim `exp` has come: the token is no longer valid.
     """
     need_stack()
     asked = file_bytes(policy, "policy")
