@@ -99,12 +99,12 @@ recipes() {
     mkdir "$made/recipes"
     cp examples/walk/order.json "$made/recipes/"
     echo '{"binding": {"nonce": "NONCE"}}' >"$made/recipes/policy.in"
-    awk '/^## / { on = $0 == "## Keys and seeds of your own"; next } on && sub(/^    /, "")' README.md >"$made/readme"
+    awk '/^## / { on = $0 == "## Keys and seeds of your own"; next } on && sub(/^[$] /, "")' docs/WALK.md >"$made/walk"
     awk '/^\*\*A nonce/ { on = 1 } /^\*\*Files\./ { on = 0 } on && /^```/ { code = !code; next } on && code' \
         docs/FILES.md >"$made/files"
     awk '/^A key, and a token/ { on = 1 } /^\.Ed/ { on = 0 } on && /^[^.A]/' docs/sdjwt.1 >"$made/manual"
     grep -Eo '\(umask 077; .* > (key\.txt|seed\.bin)\)' docs/FILES.md >"$made/keys"
-    for recipe in readme files manual keys; do
+    for recipe in walk files manual keys; do
         mkdir "$made/left"
         cp "$made"/recipes/* "$made/left/"
         (cd "$made/left" && umask 022 && sh -eu "$made/$recipe") || return 1
