@@ -261,6 +261,15 @@ assert importlib.metadata.version(\"sdjwt\") == sdjwt.__version__
 tried = doctest.testmod(sdjwt)
 print(tried, sdjwt.__version__)
 assert tried.attempted and not tried.failed'"
+    # without the package cryptography, so with a symmetric key
+    holds "$1: sdjwt-keys" inside "rm -rf /srv/keys; mkdir /srv/keys; cd /srv/keys
+        $3/bin/sdjwt-keys --version | grep '^sdjwt-keys $whole: '
+        $3/bin/sdjwt-keys keygen office --alg HS256 >/dev/null
+        echo '{\"payload\": {\"seat\": \"B12\"}, \"hide\": [\"/seat\"]}' >order.json
+        $3/bin/sdjwt-keys issue order.json --key office.shared.jwk >issued
+        $3/bin/sdjwt-keys inspect issued --html page.html | grep 'opened by disclosure 0'
+        $3/bin/sdjwt-keys verify issued --key office.shared.jwk --require seat
+        ls $3/share/man/man1/sdjwt-keys.1* $3/share/bash-completion/completions/sdjwt-keys"
 }
 
 if [ "$bare_made" = yes ]; then
@@ -277,7 +286,7 @@ if [ "$bare_made" = yes ]; then
     holds 'packages: installed' inside 'dpkg -i /srv/files/*.deb'
     programs packages /usr/bin /usr vendor-completions
     c_library packages
-    python_package packages /usr/bin/python3
+    python_package packages /usr/bin/python3 /usr
     nothing_left() {
         inside 'dpkg -r python3-sdjwt libsdjwt-dev libsdjwt1 sdjwt' &&
             inside 'find /usr /etc | sort' >"$made/after" &&
@@ -288,7 +297,7 @@ if [ "$bare_made" = yes ]; then
 
     holds 'wheel: installed' inside 'python3 -m venv /srv/venv
         /srv/venv/bin/pip install --no-index --disable-pip-version-check /srv/files/*.whl'
-    python_package wheel /srv/venv/bin/python
+    python_package wheel /srv/venv/bin/python /srv/venv
 
     # The blocks of the repository's README.md under "Install". What needs an index of packages is left out: the line of
     # cryptography. A line that ends in another folder makes it below /root, which is removed.
