@@ -1,6 +1,6 @@
 #!/usr/bin/env python3
-"""Writes what the packages say of refusals, src/sdjwt/refusals.json and rust/src/refusals.rs, from docs/REFUSALS.md, or
-checks that they are as that page says, by --check."""
+"""Writes what the packages for Python, JavaScript and Rust say of refusals from docs/REFUSALS.md, or checks that it is what
+that page says, by --check."""
 import json
 import sys
 from pathlib import Path
@@ -49,7 +49,8 @@ def quoted(text):
 
 def main():
     entries = explain.sections(explain.PAGE.read_text(encoding="utf-8"))
-    files = {"python/src/sdjwt/refusals.json": as_json(entries), "rust/src/refusals.rs": as_rust(entries)}
+    files = {f"{folder}/refusals.json": as_json(entries) for folder in ("python/src/sdjwt", "node")}
+    files["rust/src/refusals.rs"] = as_rust(entries)
     for name, written in files.items():
         file = HERE.parent / name
         if sys.argv[1:] != ["--check"]:
