@@ -197,7 +197,7 @@ def check_code():
 
     files = [path for path in (TOP / "crates").glob("*/*/**/*.*t") if path.suffix in (".rt", ".antt")]
     of_c = [plain(path.read_text(encoding="utf-8")) for path in (TOP / "c/examples").glob("*.c")]
-    shown = [("docs/LIBRARY.md", "(?:rust)?", [plain(path.read_text(encoding="utf-8")) for path in files])]
+    shown = [("docs/LIBRARY.md", "(?:rust|antt)", [plain(path.read_text(encoding="utf-8")) for path in files])]
     for page, language, sources in [*shown, ("docs/C.md", "c", of_c)]:
         for piece in pieces(page, language):
             if not piece.startswith("#include") and not any(plain(piece) in source for source in sources):
