@@ -174,6 +174,6 @@ def test_a_name_drives_no_terminal(name):
 
 
 def test_a_line_that_only_the_libraries_write_is_explained():
-    with pytest.raises(sdjwt.Unreadable, match="^unreadable 1 missing algs$") as raised:
+    with pytest.raises(sdjwt.Unreadable, match="^unreadable 1 missing algs: ") as raised:
         sdjwt.present({"want": []}, "", check=lambda question: True)
     assert raised.value.explanation and raised.value.cause and raised.value.remedy

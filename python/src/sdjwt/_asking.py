@@ -7,15 +7,16 @@ from __future__ import annotations
 
 import json
 import re
-from collections.abc import Callable
+from collections.abc import Awaitable, Callable
 from dataclasses import dataclass
-from typing import Any, Optional
+from typing import Any, NamedTuple, Optional, Union
 
 from sdjwt import _library
 from sdjwt._errors import NoCryptography, Unreadable
 from sdjwt._key_sets import KeySet, SkippedKey, has_set, is_oct, jwks, need_a_key, of_other_types, read_set, warn_of_private
-from sdjwt._keys import PUBLIC, BadKey, Check, Key, decoded, find, is_shared, key_of, serves
+from sdjwt._keys import PUBLIC, BadKey, Key, decoded, find, is_shared, key_of, serves
 from sdjwt._library import ASKS, BAD, GOOD, UNKNOWN, UNREADABLE, UNSAID, Handle
+from sdjwt._steps import Asked, Steps
 
 _USUAL = ["HS256"]
 _NO_KEYS: dict[str, Any] = {"keys": {"keys": []}}
@@ -35,6 +36,8 @@ class Question:
     it is the processed payload, whose claim `cnf` names the key.
     """
 
+    __module__ = "sdjwt"
+
     asks: str
     alg: str
     kid: Optional[str]
@@ -43,8 +46,35 @@ class Question:
     signature: bytes
     payload: Optional[dict[str, Any]]
 
+    @property
+    def header(self) -> dict[str, Any]:
+        """The protected header of what was signed."""
+        return _object_in(self.text, 0)
 
-CheckFunction = Callable[[Question], Optional[bool]]
+    @property
+    def iss(self) -> Optional[str]:
+        """The claim `iss` of what was signed. Nobody has checked it: it only says whose key to look for."""
+        named = _object_in(self.text, 1).get("iss")
+        return named if isinstance(named, str) else None
+
+
+CheckFunction = Callable[[Question], Union[Optional[bool], Awaitable[Optional[bool]]]]
+
+
+def _object_in(text: bytes, part: int) -> dict[str, Any]:
+    """The object in a part of what was signed; an empty one if it is none."""
+    try:
+        found = json.loads(decoded(text.split(b".")[part].decode()))
+    except (ValueError, LookupError, RecursionError):
+        return {}
+    return found if isinstance(found, dict) else {}
+
+
+class Judged(NamedTuple):
+    """What was said of a signature, and the key under which it was checked here."""
+
+    said: int
+    key: Optional[Key] = None
 
 
 class Checking:
@@ -57,20 +87,21 @@ class Checking:
         self.issuers: list[Key] = []
         self.holders: list[Key] = []
 
-    def answer(self, question: bytes) -> int:
+    def answer(self, question: bytes) -> Steps[Judged]:
         """What is said of the signature of a question. The function is never asked about an HMAC."""
         asked = _read_json(question.decode())[0]
         alg, text, signature = asked["alg"], asked["text"].encode(), decoded(asked["signature"])
         payload = asked.get("payload")
-        check = find(self.issuers, alg, asked.get("kid")) if payload is None else self._of_holder(payload, alg)
-        if check is not None:
-            return GOOD if check(signature, text) else BAD
+        key = find(self.issuers, alg, asked.get("kid")) if payload is None else self._of_holder(payload, alg)
+        if key is not None:
+            return Judged(GOOD if key.checks[alg](signature, text) else BAD, key)
         if self.check is None or is_shared(alg):
-            return UNKNOWN
-        return _said(self.check(Question(asked["ask"], alg, asked.get("kid"), asked.get("typ"), text, signature, payload)))
+            return Judged(UNKNOWN)
+        put = Question(asked["ask"], alg, asked.get("kid"), asked.get("typ"), text, signature, payload)
+        return Judged(_said((yield Asked(self.check, "check", (put,)))))
 
-    def _of_holder(self, payload: dict[str, Any], alg: str) -> Check | None:
-        """The check under the key that `cnf` names among those of the binding, or contains (RFC 7800 section 3).
+    def _of_holder(self, payload: dict[str, Any], alg: str) -> Key | None:
+        """The key that `cnf` names among those of the binding, or contains (RFC 7800 section 3).
 
         A symmetric key is always one of the binding, because anyone who sees the token can read `cnf`.
         """
@@ -78,19 +109,27 @@ class Checking:
         if not isinstance(confirmed, dict):
             return None
         if "jwk" in confirmed and not is_shared(alg):
-            return _check_under(confirmed["jwk"], alg)
+            return _key_in(confirmed["jwk"], alg)
         kid = confirmed.get("kid")
         return find(self.holders, alg, kid) if isinstance(kid, str) else None
 
 
-def _check_under(jwk: object, alg: str) -> Check | None:
-    """The check by an algorithm under the public key in a token."""
+def _key_in(jwk: object, alg: str) -> Key | None:
+    """The public key in a token, if it serves an algorithm."""
     if not isinstance(jwk, dict) or alg not in serves(jwk):
         return None
     try:
-        return key_of(jwk).checks[alg]
+        return key_of(jwk)
     except (BadKey, NoCryptography):
         return None
+
+
+class Verdict(NamedTuple):
+    """The status, the claims or the line, and the key of the issuer, if the signature was checked here under one."""
+
+    status: int
+    said: bytes
+    key: Optional[Key] = None
 
 
 class Asking:
@@ -125,15 +164,17 @@ class Asking:
             if binding is not None and any(alg in PUBLIC for alg in algs):
                 _need_cryptography()
 
-    def verify(self, handle: Handle, token: bytes, now: int) -> tuple[int, bytes]:
-        """The status, and the claims or the line."""
+    def verify(self, handle: Handle, token: bytes, now: int) -> Steps[Verdict]:
+        """The verdict on a token."""
+        issuer = Judged(UNSAID)
         status, said = handle.judge(self._algs, token, now, UNSAID, UNSAID)
         if status == ASKS:
-            issuer = self._checking.answer(said)
-            status, said = handle.judge(self._algs, token, now, issuer, UNSAID)
+            issuer = yield from self._checking.answer(said)
+            status, said = handle.judge(self._algs, token, now, issuer.said, UNSAID)
             if status == ASKS:
-                status, said = handle.judge(self._algs, token, now, issuer, self._checking.answer(said))
-        return status, said
+                holder = yield from self._checking.answer(said)
+                status, said = handle.judge(self._algs, token, now, issuer.said, holder.said)
+        return Verdict(status, said, issuer.key)
 
 
 def _need_cryptography() -> None:
@@ -181,7 +222,7 @@ def asking_of(text: bytes, check: CheckFunction | None) -> Asking | None:
         for holder, place in _with_sets(policy):
             warn_of_private(holder, place, "policy")
         return None
-    return None if _is_no_object(text) else Asking(policy, check)
+    return None if is_no_object(text) else Asking(policy, check)
 
 
 def _is_checked_here(policy: dict[str, Any]) -> bool:
@@ -192,7 +233,7 @@ def _is_checked_here(policy: dict[str, Any]) -> bool:
     return has_other(policy.get("algs")) and (isinstance(binding, dict) or not all(map(is_oct, jwks(policy))))
 
 
-def _is_no_object(text: bytes) -> bool:
+def is_no_object(text: bytes) -> bool:
     """Whether the library says that a file is not a JSON object of whole numbers."""
     status, line = _library.call("verify", text, b"", 0)
     return status == UNREADABLE and line.split()[2] in _TEXT_FAULTS
@@ -220,7 +261,7 @@ def read_object(text: bytes, is_needed: bool) -> dict[str, Any] | None:
         return None
     except RecursionError:
         # the library refuses such a depth too; else the stack of the caller is nearly full
-        if _is_no_object(text):
+        if is_no_object(text):
             return None
         raise
     return read if isinstance(read, dict) else None

@@ -226,7 +226,7 @@ def _unevens(value: Any, place: str) -> Iterator[tuple[_Uneven, str]]:
         yield value, place
     elif isinstance(value, dict):
         for name, member in value.items():
-            yield from _unevens(member, f"{place}/{_step(name)}")
+            yield from _unevens(member, f"{place}/{step(name)}")
     elif isinstance(value, list):
         for i, element in enumerate(value):
             yield from _unevens(element, f"{place}/{i}")
@@ -241,11 +241,11 @@ def _cut(name: str) -> str:
     return name if len(name) <= 24 else name[:8] + ".."
 
 
-def _step(name: str) -> str:
+def step(name: str) -> str:
     return _cut(name).replace("~", "~0").replace("/", "~1")
 
 
-def _shown_place(place: str) -> str:
+def shown_place(place: str) -> str:
     """A place as it is told, in ASCII. Of one that is long only its end is told."""
     shown = json.dumps(place)[1:-1]
     return (shown if len(shown) <= 160 else ".." + shown[-160:]) or "the top"
@@ -258,7 +258,7 @@ def _shown_name(name: str) -> str:
 # The forms of the members. A check answers what is wrong, and nothing where the value is of its form.
 
 def _at(place: str, said: str) -> str:
-    return f"at {_shown_place(place)}: {said}"
+    return f"at {shown_place(place)}: {said}"
 
 
 def _is(value: Any) -> str:
@@ -500,7 +500,7 @@ def fault(kind: str, content: bytes) -> Fault | None:
         return Fault("notJson", f"{_where(text, broken.at)}: {broken.said}")
     uneven, place = min(_unevens(value, ""), default=(None, "")) if reader.has_uneven else (None, "")
     if uneven is not None:
-        return Fault("notWhole", f"{_where(text, uneven.at)}: the number at {_shown_place(place)} {uneven.why}")
+        return Fault("notWhole", f"{_where(text, uneven.at)}: the number at {shown_place(place)} {uneven.why}")
     return _form_fault(kind, value) if isinstance(value, dict) else Fault("notObject", f"it is {_is(value)}, and has to be an object")
 
 

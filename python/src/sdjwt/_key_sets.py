@@ -19,6 +19,8 @@ _DESCRIBED_MAX = 8
 class PrivateKeyWarning(UserWarning):
     """A key set contains a private key instead of a public one."""
 
+    __module__ = "sdjwt"
+
 
 @dataclass(frozen=True)
 class SkippedKey:
@@ -27,6 +29,8 @@ class SkippedKey:
     `where` is "keys" for the issuers' set and "binding" for the holders', `index` is the position in the set, counted from 0,
     and `kid` is the name of the key or None.
     """
+
+    __module__ = "sdjwt"
 
     where: str
     index: int

@@ -157,9 +157,9 @@ def _number(jwk: Mapping[str, Any], name: str) -> int:
     return int.from_bytes(_member(jwk, name), "big")
 
 
-def find(keys: Iterable[Key], alg: str, kid: str | None) -> Check | None:
-    """The check under the first key that serves the algorithm and, if a name is given, has this name."""
+def find(keys: Iterable[Key], alg: str, kid: str | None) -> Key | None:
+    """The first key that serves the algorithm and, if a name is given, has this name."""
     for key in keys:
         if alg in key.checks and (kid is None or kid == key.kid):
-            return key.checks[alg]
+            return key
     return None

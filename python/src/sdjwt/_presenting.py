@@ -14,6 +14,7 @@ from sdjwt._detail import key_set_fault, text_fault
 from sdjwt._errors import Unreadable
 from sdjwt._key_sets import need_a_key, read_set, warn_of_private
 from sdjwt._signing import Signer, signer_of
+from sdjwt._steps import Steps
 
 
 class Presenting:
@@ -37,16 +38,16 @@ class Presenting:
                 rest["binding"] = {**order["binding"], "alg": signer.alg.decode()}
         self.file = json.dumps(rest).encode()
 
-    def present(self, token: bytes, now: int) -> tuple[int, bytes]:
+    def present(self, token: bytes, now: int) -> Steps[tuple[int, bytes]]:
         """The status, and what is presented or the line."""
         said = _library.UNSAID
         status, answer = _library.call("present_ask", self.file, token, now, said)
         if status == _library.ASKS:
-            said = self._checking.answer(answer)
+            said = (yield from self._checking.answer(answer)).said
             status, answer = _library.call("present_ask", self.file, token, now, said)
         if status != _library.TO_SIGN or self._signer is None:
             return status, answer
-        signature = self._signer.signature(answer)
+        signature = yield from self._signer.signature(answer)
         status, answer = _library.call("present_sign", self.file, token, now, said, signature)
         if status == _library.USAGE:
             raise ValueError("sdjwt: what sign answered has no bytes, and is no signature")

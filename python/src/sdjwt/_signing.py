@@ -5,7 +5,7 @@ only by which algorithm a key signs, and that it signs nothing else.
 """
 from __future__ import annotations
 
-from collections.abc import Callable
+from collections.abc import Awaitable, Callable
 from functools import partial
 from typing import TYPE_CHECKING, NamedTuple, Union
 
@@ -13,6 +13,7 @@ from sdjwt import _library
 from sdjwt._errors import NoCryptography
 from sdjwt._given import alg_bytes, signature_bytes
 from sdjwt._keys import BadKey
+from sdjwt._steps import Asked, Steps
 
 if TYPE_CHECKING:
     from cryptography.hazmat.primitives.asymmetric.ec import EllipticCurvePrivateKey
@@ -22,7 +23,8 @@ if TYPE_CHECKING:
     PrivateKey = Union[EllipticCurvePrivateKey, Ed25519PrivateKey, RSAPrivateKey]
 
 # The signature of a text.
-SignFunction = Callable[[bytes], Union[bytes, bytearray, memoryview]]
+Signature = Union[bytes, bytearray, memoryview]
+SignFunction = Callable[[bytes], Union[Signature, Awaitable[Signature]]]
 # The length of a signature in bytes, for the algorithms that fix it (RFC 7518 section 3.4, RFC 8037 section 3.1). EdDSA means
 # Ed25519 or Ed448.
 _LENGTHS = {"ES256": (64,), "ES384": (96,), "ES512": (132,), "Ed25519": (64,), "Ed448": (114,), "EdDSA": (64, 114)}
@@ -34,22 +36,22 @@ class Signer(NamedTuple):
     alg: bytes
     sign: Callable[[bytes], object]
 
-    def issue(self, order: bytes, seed: bytes) -> tuple[int, bytes]:
+    def issue(self, order: bytes, seed: bytes) -> Steps[tuple[int, bytes]]:
         """The status, and the token or the line."""
         status, said = _library.call("issue_ask", order, self.alg, seed)
         if status == _library.USAGE:
             raise ValueError("sdjwt: alg is no name of an algorithm by which a token is signed")
         if status != _library.DONE:
             return status, said
-        signature = self.signature(said)
+        signature = yield from self.signature(said)
         status, said = _library.call("issue_sign", order, self.alg, seed, signature)
         if status == _library.USAGE:
             raise ValueError("sdjwt: what sign answered has no bytes, and is no signature")
         return status, said
 
-    def signature(self, text: bytes) -> bytes:
+    def signature(self, text: bytes) -> Steps[bytes]:
         """The signature of a text, with a length that fits the algorithm."""
-        made, name = signature_bytes(self.sign(text)), self.alg.decode()
+        made, name = signature_bytes((yield Asked(self.sign, "sign", (text,)))), self.alg.decode()
         lengths = _LENGTHS.get(name, (len(made),))
         if len(made) not in lengths:
             wanted = " or ".join(map(str, lengths)) + (" (r and s, not DER)" if name in ("ES256", "ES384", "ES512") else "")

@@ -1,0 +1,113 @@
+"""A policy that is read once, to verify many tokens."""
+from __future__ import annotations
+
+from collections.abc import Mapping
+from datetime import datetime
+from time import time as _time
+from typing import Any, Optional, Union
+
+from sdjwt._answers import answered, object_of, read_json
+from sdjwt._asking import Asking, CheckFunction, Verdict, asking_of, skipped_of
+from sdjwt._given import MOST, file_bytes, moment, token_bytes
+from sdjwt._handles import Handles, filled
+from sdjwt._key_sets import SkippedKey
+from sdjwt._library import DONE, KEPT
+from sdjwt._stack import need_stack
+from sdjwt._steps import Steps, finish
+
+Bytes = Union[bytes, bytearray, memoryview]
+Json = Union[Mapping[str, Any], str, Bytes]
+Moment = Union[float, datetime]
+
+
+class Policy:
+    """A policy that is read once, to verify many tokens. It may be used by many threads at once.
+
+    Its `keys` may have public keys beside those of the kind `oct`, where its `algs` name their algorithms: ES256, ES384,
+    ES512, EdDSA, PS256, RS256 and the like. Signatures under them are checked by the package cryptography. The key of a
+    holder is `cnf.jwk` of the token, or the key of the `keys` of the `binding` that `cnf.kid` names. `binding` may have
+    `algs` of its own, the algorithms of holders; it needs no `keys` if one of these is for public keys. An invalid key is
+    skipped, and `skipped_keys` lists it. `check` is a function that is asked of a signature for which no key is here, by a
+    `Question`: it answers True where it is good, False where it is bad, and None where it has no key for it. It is never
+    asked about an HMAC.
+
+    >>> key = "dGhlIHRpY2tldCBvZmZpY2Uga2V5LCBub3QgeW91cnM"
+    >>> policy = Policy({"keys": {"keys": [{"kty": "oct", "k": key}]}, "require": ["seat"]})
+    >>> policy.verify(issue({"payload": {"seat": "B12"}, "hide": ["/seat"], "key": key}))
+    {'seat': 'B12'}
+    >>> Policy({"keys": {"keys": []}, "skew": "much"})
+    Traceback (most recent call last):
+    sdjwt.Unreadable: unreadable 1 wrong skew: at /skew: it is a text, and has to be a whole number
+
+    A nonce is for one presentation, so `verify` takes it, and `binding` need not have one. The same holds for `aud`, which
+    the argument `audience` gives.
+
+    >>> holder = "YW5vdGhlciBrZXksIHRoZSBvbmUgb2YgdGhlIGhvbGRlcg"
+    >>> token = issue({"payload": {"cnf": {"kid": "ada"}}, "key": key})
+    >>> binding = {"key": holder, "kid": "ada", "aud": "https://door.example", "nonce": "4711"}
+    >>> shown = present({"keys": {"keys": [{"kty": "oct", "k": key}]}, "binding": binding}, token)
+    >>> holders = {"keys": [{"kty": "oct", "kid": "ada", "k": holder}]}
+    >>> door = Policy({"keys": {"keys": [{"kty": "oct", "k": key}]},
+    ...                "binding": {"aud": "https://door.example", "keys": holders, "max_age": 300}})
+    >>> door.verify(shown, nonce="4711")
+    {'cnf': {'kid': 'ada'}}
+    >>> door.verify(shown, nonce="4712")
+    Traceback (most recent call last):
+    sdjwt.NonceDiffers: refused 35 nonceDiffers: The `nonce` of the key binding token is not the one of the policy.
+    """
+
+    __module__ = "sdjwt"
+    __slots__ = ("_asking", "_handles", "_lender", "_text")
+
+    def __init__(self, policy: Json, *, check: CheckFunction | None = None) -> None:
+        need_stack()
+        text, missing = filled(file_bytes(policy, "policy"))
+        self._asking: Asking | None = asking_of(text, check)
+        self._text = text if self._asking is None else self._asking.file
+        self._lender = Handles(self._text, missing)
+        # those that no call uses, if it gives neither a nonce nor an audience
+        self._handles = self._lender.own
+        if self._asking is not None:
+            self._asking.read_keys()
+
+    def verify(
+        self, token: Json, now: Moment | None = None, *, nonce: str | None = None, audience: str | None = None, most: int = MOST,
+    ) -> dict[str, Any]:
+        """The claims of a token that is accepted.
+
+        If `nonce` or `audience` is given, the key binding token has to have it, whatever the policy has.
+        """
+        if self._asking is not None or nonce is not None or audience is not None or self._lender.missing:
+            verdict = finish(self._judged(token, now, nonce, audience, most))
+            return object_of(answered(verdict.status, verdict.said))
+        need_stack()
+        # what needs no look at the types is written out here, since this call is to be fast
+        given = token if type(token) is bytes and type(most) is int and len(token) <= most else token_bytes(token, most)
+        at = max(0, int(_time())) if now is None else moment(now)
+        handles = self._handles
+        try:
+            handle = handles.pop()
+        except IndexError:
+            handle = self._lender.new()
+        try:
+            status, said = handle.verify(given, at)
+        finally:
+            if len(handles) < KEPT:
+                handles.append(handle)
+        if status != DONE:
+            answered(status, said)
+        claims: dict[str, Any] = read_json(said.decode())[0]
+        return claims
+
+    def _judged(self, token: Json, now: Moment | None, nonce: Optional[str], audience: Optional[str], most: int) -> Steps[Verdict]:
+        """The verdict on a token."""
+        given, at = token_bytes(token, most), moment(now)
+        with self._lender.lent(nonce, audience) as handle:
+            if self._asking is None:
+                return Verdict(*handle.verify(given, at))
+            return (yield from self._asking.verify(handle, given, at))
+
+    @property
+    def skipped_keys(self) -> tuple[SkippedKey, ...]:
+        """The keys of the policy that were skipped, each with the reason."""
+        return skipped_of(self._text) if self._asking is None else self._asking.skipped
