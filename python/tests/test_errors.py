@@ -149,7 +149,7 @@ def test_a_number_that_json_has_not_is_named_with_its_place(value, said):
 def test_the_search_for_a_place_has_an_end():
     circle = {"a": {}, "b": []}
     circle["a"]["again"] = circle
-    wide = {"n": [[]] * 100_001, "z": datetime.now(timezone.utc)}
+    wide = {"n": [[]] * 20_001, "z": datetime.now(timezone.utc)}
     for given, kind in ((circle, ValueError), (wide, TypeError)):
         with pytest.raises(kind) as caught:
             sdjwt.Policy(given)

@@ -17,18 +17,18 @@ A token may come from a stranger, so each call that takes one bounds its length 
 
 A key of an order is shared (HMAC): whoever verifies such a token can make one. With `sign` a token is issued, and presented, with
 a private key, of which verifiers have the public one, by the package cryptography, which the extra `keys` installs. Tokens that others
-signed so are verified too. A wallet takes tokens that are signed with shared keys alone.
+signed so are verified too.
 """
 from __future__ import annotations
 
 import secrets
 from collections.abc import Iterable
 from dataclasses import dataclass
-from typing import TYPE_CHECKING, Any, Literal
+from typing import Any, Literal, overload
 
 from sdjwt import _library
 from sdjwt._answers import answered, object_of, without_end
-from sdjwt._asking import CheckFunction, Question, asking_of
+from sdjwt._asking import AsyncCheckFunction, CheckFunction, Functions, Question, asking_of
 from sdjwt._built import PROVED as proved
 from sdjwt._built import VERSION as __version__
 from sdjwt._confirmed import refuse_secret_key
@@ -55,22 +55,35 @@ from sdjwt._errors import (
     Unreadable,
 )
 from sdjwt._given import MOST, file_bytes, held_bytes, moment, seed_bytes, token_bytes
+from sdjwt._key_forms import public_jwk, with_key_sets
 from sdjwt._key_sets import PrivateKeyWarning, SkippedKey
 from sdjwt._parts import parted, shown
-from sdjwt._policy import Bytes, Json, Moment, Policy
+from sdjwt._policy import Policy, Verified
 from sdjwt._presenting import presenting_of
-from sdjwt._signing import SignFunction, signer_of
+from sdjwt._signing import signer_of
 from sdjwt._stack import need_stack
-from sdjwt._steps import finish
-
-if TYPE_CHECKING:
-    from sdjwt._signing import PrivateKey
+from sdjwt._steps import Steps, finish, finish_async
+from sdjwt._types import (
+    AsyncKeysFunction,
+    AsyncSignFunction,
+    Bytes,
+    Json,
+    Keys,
+    KeysFunction,
+    Moment,
+    PrivateKey,
+    PublicKey,
+    SignFunction,
+)
+from sdjwt._wallet import wallet_of
 
 __all__ = [
-    "MOST", "AlgorithmRefused", "AudienceDiffers", "BadOrder", "BadPresentation", "BadSignature", "BindingRefused", "Expired",
-    "IssuerRefused", "MissingClaim", "NoCryptography", "NonceDiffers", "NotYetValid", "OutOfMemory", "OutOfStack", "Picked", "Policy",
-    "PrivateKeyWarning", "Question", "Refused", "SdJwtError", "SkippedKey", "TooLong", "UnknownKey", "Unreadable", "__version__",
-    "audit", "convert", "issue", "present", "proved", "show", "split", "verify", "wallet",
+    "MOST", "AlgorithmRefused", "AsyncCheckFunction", "AsyncKeysFunction", "AsyncSignFunction", "AudienceDiffers", "BadOrder",
+    "BadPresentation", "BadSignature", "BindingRefused", "Bytes", "CheckFunction", "Expired", "IssuerRefused", "Json", "Keys",
+    "KeysFunction", "MissingClaim", "Moment", "NoCryptography", "NonceDiffers", "NotYetValid", "OutOfMemory", "OutOfStack",
+    "Picked", "Policy", "PrivateKey", "PrivateKeyWarning", "PublicKey", "Question", "Refused", "SdJwtError", "SignFunction",
+    "SkippedKey", "TooLong", "UnknownKey", "Unreadable", "Verified", "__version__", "audit", "convert", "issue", "issue_async",
+    "present", "present_async", "proved", "public_jwk", "show", "split", "verify", "wallet",
 ]
 
 _FORMS = {"compact": 0, "flat": 1, "general": 2}
@@ -107,12 +120,22 @@ def issue(
     >>> show(token)["header"]
     {'alg': 'ES256', 'kid': 'k1'}
     """
-    need_stack()
+    return finish(_issued(order, seed, sign, alg))
+
+
+async def issue_async(
+    order: Json, seed: Bytes | None = None, *, sign: PrivateKey | SignFunction | AsyncSignFunction | None = None, alg: str | None = None,
+) -> str:
+    """`issue` on another thread, so that the event loop goes on. Only here may `sign` be a coroutine function."""
+    return await finish_async(_issued(order, seed, sign, alg))
+
+
+def _issued(order: Json, seed: Bytes | None, sign: object, alg: str | None) -> Steps[str]:
     ordered = file_bytes(order, "order")
     refuse_secret_key(ordered)
     salted = secrets.token_bytes(32) if seed is None else seed_bytes(seed)
     if sign is not None:
-        called = finish(signer_of(sign, alg).issue(ordered, salted))
+        called = yield from signer_of(sign, alg).issue(ordered, salted)
         return without_end(answered(*called, (UNSIGNED, ordered), ("seed", salted)))
     if alg is not None:
         raise ValueError("sdjwt: alg is given without sign; the algorithm of a shared key stands in the order")
@@ -146,19 +169,33 @@ def present(
     >>> show(shown)["binding"] is None, len(show(shown)["disclosures"])
     (False, 1)
     """
-    need_stack()
-    ordered = file_bytes(order, "order")
+    return finish(_presented(order, token, now, most, sign, alg, check))
+
+
+async def present_async(
+    order: Json, token: Json, now: Moment | None = None, *, most: int = MOST,
+    sign: PrivateKey | SignFunction | AsyncSignFunction | None = None, alg: str | None = None,
+    check: CheckFunction | AsyncCheckFunction | None = None,
+) -> str:
+    """`present` on another thread, so that the event loop goes on. Only here may `sign` and `check` be coroutine functions."""
+    return await finish_async(_presented(order, token, now, most, sign, alg, check))
+
+
+def _presented(
+    order: Json, token: Json, now: Moment | None, most: int, sign: object, alg: str | None, check: CheckFunction | AsyncCheckFunction | None,
+) -> Steps[str]:
+    ordered = file_bytes(with_key_sets(order), "order")
     given, at = token_bytes(token, most), moment(now)
     presenting = presenting_of(ordered, check, sign, alg)
     if presenting is not None:
-        return without_end(answered(*finish(presenting.present(given, at)), (ASKED, ordered)))
-    called = _library.call("present", ordered, given, at)
-    return without_end(answered(*called, ("present order", ordered)))
+        called = yield from presenting.present(given, at)
+        return without_end(answered(*called, (ASKED, ordered)))
+    return without_end(answered(*_library.call("present", ordered, given, at), ("present order", ordered)))
 
 
 def verify(
     policy: Json, token: Json, now: Moment | None = None, *, nonce: str | None = None, audience: str | None = None, most: int = MOST,
-    check: CheckFunction | None = None,
+    keys: Keys | KeysFunction | None = None, check: CheckFunction | None = None,
 ) -> dict[str, Any]:
     """The claims of a token that is accepted under a policy. For many tokens under one policy take `Policy`.
 
@@ -179,9 +216,10 @@ def verify(
     25 expired None
     """
     need_stack()
-    asked = file_bytes(policy, "policy")
-    if nonce is not None or audience is not None or asking_of(asked, check) is not None:
-        return Policy(asked, check=check).verify(token, now, nonce=nonce, audience=audience, most=most)
+    asked = file_bytes(with_key_sets(policy), "policy")
+    is_plain = nonce is None and audience is None and keys is None
+    if not is_plain or asking_of(asked, Functions(check)) is not None:
+        return Policy(asked, keys=keys, check=check).verify(token, now, nonce=nonce, audience=audience, most=most)
     called = _library.call("verify", asked, token_bytes(token, most), moment(now))
     return object_of(answered(*called, ("policy", asked)))
 
@@ -214,6 +252,10 @@ def split(token: Json, *, most: int = MOST) -> dict[str, Any]:
     return parted(token_bytes(token, most))
 
 
+@overload
+def convert(form: Literal["compact"], token: Json, *, most: int = MOST) -> str: ...
+@overload
+def convert(form: Literal["flat", "general"], token: Json, *, most: int = MOST) -> dict[str, Any]: ...
 def convert(form: Literal["compact", "flat", "general"], token: Json, *, most: int = MOST) -> str | dict[str, Any]:
     """A token in another form, unchecked: compact as a str, and flat or general as the dict of its JSON.
 
@@ -262,7 +304,7 @@ class Picked:
 def wallet(query: Json, tokens: Iterable[Json], *, most: int = MOST) -> Picked:
     """Of 1 to 64 tokens that a holder has, the one that answers a query with the fewest disclosures.
 
-    `most` bounds the length of each token.
+    `most` bounds the length of each token. The `keys` of the query may be public ones, each for the algorithms of its type.
 
     >>> key = "dGhlIHRpY2tldCBvZmZpY2Uga2V5LCBub3QgeW91cnM"
     >>> ticket = issue({"payload": {"name": "Ada", "seat": "B12"}, "hide": ["/name", "/seat"], "key": key})
@@ -276,7 +318,8 @@ def wallet(query: Json, tokens: Iterable[Json], *, most: int = MOST) -> Picked:
     sdjwt.Refused: refused 77 noCredentialAnswers: Of the token files that were named, none can be used and answers the query.
     """
     need_stack()
-    asked = file_bytes(query, "query")
-    called = _library.call_wallet(asked, held_bytes(tokens, most))
+    asked = file_bytes(with_key_sets(query), "query")
+    held, kept = held_bytes(tokens, most), wallet_of(asked)
+    called = _library.call_wallet(asked, held) if kept is None else kept.choose(held)
     number, token = without_end(answered(*called, ("query", asked))).split("\n", 1)
     return Picked(int(number.removeprefix("credential ")), token)

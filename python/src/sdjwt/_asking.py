@@ -8,15 +8,18 @@ from __future__ import annotations
 import json
 import re
 from collections.abc import Awaitable, Callable
+from contextlib import suppress
 from dataclasses import dataclass
 from typing import Any, NamedTuple, Optional, Union
 
 from sdjwt import _library
 from sdjwt._errors import NoCryptography, Unreadable
+from sdjwt._key_forms import as_key_set
 from sdjwt._key_sets import KeySet, SkippedKey, has_set, is_oct, jwks, need_a_key, of_other_types, read_set, warn_of_private
 from sdjwt._keys import PUBLIC, BadKey, Key, decoded, find, is_shared, key_of, serves
 from sdjwt._library import ASKS, BAD, GOOD, UNKNOWN, UNREADABLE, UNSAID, Handle
 from sdjwt._steps import Asked, Steps
+from sdjwt._types import AsyncKeysFunction, KeysFunction
 
 _USUAL = ["HS256"]
 _NO_KEYS: dict[str, Any] = {"keys": {"keys": []}}
@@ -49,19 +52,32 @@ class Question:
     @property
     def header(self) -> dict[str, Any]:
         """The protected header of what was signed."""
-        return _object_in(self.text, 0)
+        return object_in(self.text, 0)
 
     @property
     def iss(self) -> Optional[str]:
         """The claim `iss` of what was signed. Nobody has checked it: it only says whose key to look for."""
-        named = _object_in(self.text, 1).get("iss")
+        named = object_in(self.text, 1).get("iss")
         return named if isinstance(named, str) else None
 
 
-CheckFunction = Callable[[Question], Union[Optional[bool], Awaitable[Optional[bool]]]]
+CheckFunction = Callable[[Question], Optional[bool]]
+AsyncCheckFunction = Callable[[Question], Awaitable[Optional[bool]]]
 
 
-def _object_in(text: bytes, part: int) -> dict[str, Any]:
+class Functions(NamedTuple):
+    """The functions of a caller: for signatures under keys that are not here, and for the keys of an issuer."""
+
+    check: Union[CheckFunction, AsyncCheckFunction, None] = None
+    keys: Union[KeysFunction, AsyncKeysFunction, None] = None
+
+    @property
+    def are_given(self) -> bool:
+        """Whether there is one."""
+        return self.check is not None or self.keys is not None
+
+
+def object_in(text: bytes, part: int) -> dict[str, Any]:
     """The object in a part of what was signed; an empty one if it is none."""
     try:
         found = json.loads(decoded(text.split(b".")[part].decode()))
@@ -78,27 +94,30 @@ class Judged(NamedTuple):
 
 
 class Checking:
-    """What is said of signatures: under the keys of issuers and of holders, or by a function of the caller."""
+    """What is said of signatures: under the keys of issuers and of holders, or by the functions of the caller."""
 
-    __slots__ = ("check", "holders", "issuers")
+    __slots__ = ("functions", "holders", "issuers")
 
-    def __init__(self, check: CheckFunction | None) -> None:
-        self.check = check
+    def __init__(self, functions: Functions) -> None:
+        self.functions = functions
         self.issuers: list[Key] = []
         self.holders: list[Key] = []
 
     def answer(self, question: bytes) -> Steps[Judged]:
-        """What is said of the signature of a question. The function is never asked about an HMAC."""
+        """What is said of the signature of a question. The function `check` is never asked about an HMAC."""
         asked = _read_json(question.decode())[0]
-        alg, text, signature = asked["alg"], asked["text"].encode(), decoded(asked["signature"])
-        payload = asked.get("payload")
-        key = find(self.issuers, alg, asked.get("kid")) if payload is None else self._of_holder(payload, alg)
+        alg, kid, payload = asked["alg"], asked.get("kid"), asked.get("payload")
+        put = Question(asked["ask"], alg, kid, asked.get("typ"), asked["text"].encode(), decoded(asked["signature"]), payload)
+        key = find(self.issuers, alg, kid) if payload is None else self._of_holder(payload, alg)
+        if key is None and payload is None and self.functions.keys is not None:
+            found = yield Asked(self.functions.keys, "keys", (put.iss, put.header))
+            # the function was asked about this token, so a key without a name is meant for it
+            key = find(_keys_in(found), alg, kid, takes_nameless=True)
         if key is not None:
-            return Judged(GOOD if key.checks[alg](signature, text) else BAD, key)
-        if self.check is None or is_shared(alg):
+            return Judged(GOOD if key.checks[alg](put.signature, put.text) else BAD, key)
+        if self.functions.check is None or is_shared(alg):
             return Judged(UNKNOWN)
-        put = Question(asked["ask"], alg, asked.get("kid"), asked.get("typ"), text, signature, payload)
-        return Judged(_said((yield Asked(self.check, "check", (put,)))))
+        return Judged(_said((yield Asked(self.functions.check, "check", (put,)))))
 
     def _of_holder(self, payload: dict[str, Any], alg: str) -> Key | None:
         """The key that `cnf` names among those of the binding, or contains (RFC 7800 section 3).
@@ -112,6 +131,20 @@ class Checking:
             return _key_in(confirmed["jwk"], alg)
         kid = confirmed.get("kid")
         return find(self.holders, alg, kid) if isinstance(kid, str) else None
+
+
+def _keys_in(found: object) -> list[Key]:
+    """The keys that a function returned, without those that are invalid."""
+    if found is None:
+        return []
+    given = {"keys": as_key_set(found, "/keys")}
+    if not has_set(given):
+        raise TypeError(f"sdjwt: keys returned a value of type {type(found).__name__}, and has to return keys or None")
+    keys = []
+    for jwk in jwks(given):
+        with suppress(BadKey):
+            keys.append(key_of(jwk))
+    return keys
 
 
 def _key_in(jwk: object, alg: str) -> Key | None:
@@ -140,14 +173,15 @@ class Asking:
 
     __slots__ = ("_algs", "_checking", "_policy", "file", "skipped")
 
-    def __init__(self, policy: dict[str, Any], check: CheckFunction | None) -> None:
-        self._policy, self._checking = policy, Checking(check)
+    def __init__(self, policy: dict[str, Any], functions: Functions) -> None:
+        self._policy, self._checking = policy, Checking(functions)
         self.skipped: tuple[SkippedKey, ...] = ()
         binding = policy.get("binding")
         self._algs = b""
         if isinstance(binding, dict) and "algs" in binding:
             self._algs = json.dumps(binding["algs"]).encode()
-        self.file = json.dumps(_without_keys(policy)).encode()
+        # a function gives the keys of issuers, so their set may be missing
+        self.file = json.dumps(_without_keys({**_NO_KEYS, **policy} if functions.keys is not None else policy)).encode()
 
     def read_keys(self) -> None:
         """Reads the keys, of a policy that the library has taken."""
@@ -158,7 +192,7 @@ class Asking:
         holders = read_set(binding, "binding", "/binding", "policy") if binding is not None else KeySet([], (), [])
         self.skipped = issuers.skipped + holders.skipped
         checking.issuers, checking.holders = issuers.keys, holders.keys
-        if checking.check is None:
+        if checking.functions.check is None:
             need_a_key(issuers, self._policy.get("algs", _USUAL), "keys")
             need_a_key(holders, algs, "binding")
             if binding is not None and any(alg in PUBLIC for alg in algs):
@@ -210,19 +244,19 @@ def need_function(check: object) -> None:
         raise TypeError(f"sdjwt: check is of type {type(check).__name__}, and has to be a function")
 
 
-def asking_of(text: bytes, check: CheckFunction | None) -> Asking | None:
+def asking_of(text: bytes, functions: Functions) -> Asking | None:
     """How a policy asks. None if it has symmetric keys only, so that the library checks by itself."""
-    need_function(check)
-    policy = read_object(text, check is not None)
+    need_function(functions.check)
+    policy = read_object(text, functions.are_given)
     if policy is None:
         return None
-    if check is not None and not has_other(policy.get("algs")) and not has_other(_holder_algs(policy)):
+    if functions.check is not None and not has_other(policy.get("algs")) and not has_other(_holder_algs(policy)):
         raise ValueError("sdjwt: check is given, and no algorithm in algs of the policy is one that it is asked about")
-    if check is None and not _is_checked_here(policy):
+    if not functions.are_given and not _is_checked_here(policy):
         for holder, place in _with_sets(policy):
             warn_of_private(holder, place, "policy")
         return None
-    return None if is_no_object(text) else Asking(policy, check)
+    return None if is_no_object(text) else Asking(policy, functions)
 
 
 def _is_checked_here(policy: dict[str, Any]) -> bool:

@@ -21,7 +21,7 @@ MOST = 1_048_576
 # The length of a seed in bytes.
 SEED_LENGTH = 32
 # How many values, and how deep, are looked at for one that JSON does not have. A value may contain itself.
-_SEARCHED_MAX = 100_000
+_SEARCHED_MAX = 20_000
 _DEPTH_MAX = 128
 
 

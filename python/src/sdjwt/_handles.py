@@ -66,6 +66,11 @@ class Handles:
         first = self.new()
         self.own = [] if missing else [first]
 
+    @property
+    def has_binding(self) -> bool:
+        """Whether the policy asks for a key binding token."""
+        return "binding" in self._read_policy()
+
     def new(self) -> Handle:
         """One more handle of the policy as it is."""
         return _read(self._file)
@@ -105,9 +110,7 @@ class Handles:
 
     def _binding(self, given: dict[str, Optional[str]]) -> dict[str, Any]:
         """The binding of the policy, if what is given fits it."""
-        if self._policy is None:
-            self._policy = json.loads(self._file)
-        binding: Optional[dict[str, Any]] = self._policy.get("binding")
+        binding: Optional[dict[str, Any]] = self._read_policy().get("binding")
         if binding is None:
             name = next(name for name, text in given.items() if text is not None)
             raise ValueError(f"sdjwt: {name} is given, and the policy has no binding, so no key binding token is checked")
@@ -115,6 +118,12 @@ class Handles:
             if given[name] is None:
                 raise Unreadable("unreadable 1 wrong binding", f'at /binding: "{_OF_CALLS[name]}" is missing, and the call gives no {name}')
         return binding
+
+    def _read_policy(self) -> dict[str, Any]:
+        if self._policy is None:
+            read: dict[str, Any] = json.loads(self._file)
+            self._policy = read
+        return self._policy
 
     def _idle(self, audience: Optional[str]) -> Optional[_Entry]:
         """A handle for an audience that no call uses. It is this call's from now on."""
@@ -132,14 +141,14 @@ class Handles:
         if audience is None:
             return self.new()
         try:
-            return _read(_with(json.loads(self._file), None, audience))
+            return _read(_with(self._read_policy(), None, audience))
         except Unreadable:
             # the policy is good with another text
             raise _too_long("audience", audience) from None
 
     def _set_nonce(self, entry: _Entry, nonce: str) -> None:
         audience, handle = entry
-        status = handle.set_nonce(nonce.encode(), lambda: _with(json.loads(self._file), nonce, audience))
+        status = handle.set_nonce(nonce.encode(), lambda: _with(self._read_policy(), nonce, audience))
         if status == MEMORY:
             raise OutOfMemory("sdjwt: there is no memory")
         if status != DONE:

@@ -2,22 +2,50 @@
 from __future__ import annotations
 
 from collections.abc import Mapping
-from datetime import datetime
+from dataclasses import dataclass
+from functools import partial
 from time import time as _time
-from typing import Any, Optional, Union
+from typing import Any, Optional
 
 from sdjwt._answers import answered, object_of, read_json
-from sdjwt._asking import Asking, CheckFunction, Verdict, asking_of, skipped_of
+from sdjwt._asking import (
+    Asking,
+    AsyncCheckFunction,
+    CheckFunction,
+    Functions,
+    Verdict,
+    asking_of,
+    is_no_object,
+    object_in,
+    read_object,
+    skipped_of,
+)
 from sdjwt._given import MOST, file_bytes, moment, token_bytes
 from sdjwt._handles import Handles, filled
+from sdjwt._key_forms import as_key_set, with_key_sets
 from sdjwt._key_sets import SkippedKey
 from sdjwt._library import DONE, KEPT
+from sdjwt._parts import shown
 from sdjwt._stack import need_stack
-from sdjwt._steps import Steps, finish
+from sdjwt._steps import Steps, finish, finish_async
+from sdjwt._types import AsyncKeysFunction, Json, Keys, KeysFunction, Moment
 
-Bytes = Union[bytes, bytearray, memoryview]
-Json = Union[Mapping[str, Any], str, Bytes]
-Moment = Union[float, datetime]
+
+@dataclass(frozen=True)
+class Verified:
+    """What is known of a token that is accepted.
+
+    `claims` is what `verify` returns, and `header` the protected header. `binding` is the payload of the key binding token, or None
+    if the policy has no `binding`. `key` is the issuer's public key as a JWK, with its `kid` if it has one. It is None if the library
+    checked the signature itself, or if the function `check` did; of a shared key it has no secret.
+    """
+
+    __module__ = "sdjwt"
+
+    claims: dict[str, Any]
+    header: dict[str, Any]
+    binding: Optional[dict[str, Any]]
+    key: Optional[dict[str, Any]]
 
 
 class Policy:
@@ -57,18 +85,31 @@ class Policy:
     """
 
     __module__ = "sdjwt"
-    __slots__ = ("_asking", "_handles", "_lender", "_text")
+    __slots__ = ("_asking", "_handles", "_lender", "_made_of", "_text")
 
-    def __init__(self, policy: Json, *, check: CheckFunction | None = None) -> None:
+    def __init__(
+        self, policy: Json, *, keys: Keys | KeysFunction | AsyncKeysFunction | None = None,
+        check: CheckFunction | AsyncCheckFunction | None = None,
+    ) -> None:
         need_stack()
-        text, missing = filled(file_bytes(policy, "policy"))
-        self._asking: Asking | None = asking_of(text, check)
+        given = file_bytes(with_key_sets(policy), "policy")
+        if keys is not None:
+            given = _with_keys(given, keys)
+        functions = Functions(check, keys if callable(keys) else None)
+        # what makes the same policy again
+        self._made_of = given, functions
+        text, missing = filled(given)
+        self._asking: Asking | None = asking_of(text, functions)
         self._text = text if self._asking is None else self._asking.file
         self._lender = Handles(self._text, missing)
         # those that no call uses, if it gives neither a nonce nor an audience
         self._handles = self._lender.own
         if self._asking is not None:
             self._asking.read_keys()
+
+    def __reduce__(self) -> tuple[Any, ...]:
+        text, functions = self._made_of
+        return partial(type(self), keys=functions.keys, check=functions.check), (text,)
 
     def verify(
         self, token: Json, now: Moment | None = None, *, nonce: str | None = None, audience: str | None = None, most: int = MOST,
@@ -99,7 +140,28 @@ class Policy:
         claims: dict[str, Any] = read_json(said.decode())[0]
         return claims
 
-    def _judged(self, token: Json, now: Moment | None, nonce: Optional[str], audience: Optional[str], most: int) -> Steps[Verdict]:
+    def check(
+        self, token: Json, now: Moment | None = None, *, nonce: str | None = None, audience: str | None = None, most: int = MOST,
+    ) -> Verified:
+        """What is known of a token that is accepted: its claims, as `verify` returns them, and its header, key and key binding."""
+        given = token_bytes(token, most)
+        return self._verified(given, finish(self._judged(given, now, nonce, audience, most)))
+
+    async def verify_async(
+        self, token: Json, now: Moment | None = None, *, nonce: str | None = None, audience: str | None = None, most: int = MOST,
+    ) -> dict[str, Any]:
+        """`verify` on another thread, so that the event loop goes on. Only here may `check` and `keys` be coroutine functions."""
+        verdict = await finish_async(self._judged(token, now, nonce, audience, most))
+        return object_of(answered(verdict.status, verdict.said))
+
+    async def check_async(
+        self, token: Json, now: Moment | None = None, *, nonce: str | None = None, audience: str | None = None, most: int = MOST,
+    ) -> Verified:
+        """`check` on another thread, as `verify_async` is `verify`."""
+        given = token_bytes(token, most)
+        return self._verified(given, await finish_async(self._judged(given, now, nonce, audience, most)))
+
+    def _judged(self, token: Json, now: Moment | None, nonce: str | None, audience: str | None, most: int) -> Steps[Verdict]:
         """The verdict on a token."""
         given, at = token_bytes(token, most), moment(now)
         with self._lender.lent(nonce, audience) as handle:
@@ -107,7 +169,28 @@ class Policy:
                 return Verdict(*handle.verify(given, at))
             return (yield from self._asking.verify(handle, given, at))
 
+    def _verified(self, token: bytes, verdict: Verdict) -> Verified:
+        claims = object_of(answered(verdict.status, verdict.said))
+        inside = shown(token)
+        # without `binding` in the policy, nobody has checked the key binding token
+        binding = object_in(inside["binding"].encode(), 1) if self._lender.has_binding else None
+        return Verified(claims, inside["header"], binding, None if verdict.key is None else dict(verdict.key.public))
+
     @property
     def skipped_keys(self) -> tuple[SkippedKey, ...]:
         """The keys of the policy that were skipped, each with the reason."""
         return skipped_of(self._text) if self._asking is None else self._asking.skipped
+
+
+def _with_keys(policy: bytes, keys: object) -> bytes:
+    """A policy with the keys that an argument gives, or with no keys if a function gives them."""
+    found = read_object(policy, True)
+    if found is not None and "keys" in found:
+        raise ValueError("sdjwt: keys is given, and the policy has keys too")
+    if callable(keys):
+        return policy
+    given = as_key_set(keys, "/keys")
+    if not isinstance(given, Mapping):
+        raise TypeError(f"sdjwt: keys is of type {type(keys).__name__}, and has to be a key, several, a key set, or a function")
+    # what is no object is for the library to refuse
+    return policy if found is None or is_no_object(policy) else file_bytes({**found, "keys": given}, "policy")

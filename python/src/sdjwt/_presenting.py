@@ -9,7 +9,7 @@ import json
 from typing import Any
 
 from sdjwt import _library
-from sdjwt._asking import CheckFunction, Checking, has_other, need_function, read_object
+from sdjwt._asking import AsyncCheckFunction, CheckFunction, Checking, Functions, has_other, need_function, read_object
 from sdjwt._detail import key_set_fault, text_fault
 from sdjwt._errors import Unreadable
 from sdjwt._key_sets import need_a_key, read_set, warn_of_private
@@ -22,8 +22,8 @@ class Presenting:
 
     __slots__ = ("_checking", "_signer", "file")
 
-    def __init__(self, order: dict[str, Any], check: CheckFunction | None, signer: Signer | None) -> None:
-        self._checking, self._signer = Checking(check), signer
+    def __init__(self, order: dict[str, Any], check: CheckFunction | AsyncCheckFunction | None, signer: Signer | None) -> None:
+        self._checking, self._signer = Checking(Functions(check)), signer
         if "keys" in order or check is None:
             _need_keys(order)
             issuers = read_set(order, "keys", "", "present order")
@@ -54,7 +54,7 @@ class Presenting:
         return status, answer
 
 
-def presenting_of(text: bytes, check: CheckFunction | None, sign: object, alg: object) -> Presenting | None:
+def presenting_of(text: bytes, check: CheckFunction | AsyncCheckFunction | None, sign: object, alg: object) -> Presenting | None:
     """How an order is presented. None where the library does so by itself, with the shared keys of the order."""
     need_function(check)
     is_asked = check is not None or sign is not None
