@@ -1,6 +1,6 @@
 #!/usr/bin/env python3
-"""Looks at a wheel: whether its tag is true of the library in it, whether it has the modules of its programs, and whether
-its RECORD says what it holds.
+"""Looks at a wheel: whether its tag is true of the library in it, whether it has the modules of its programs, and
+whether its RECORD says what it holds.
 
     python3 release/wheel.py WHEEL
 """

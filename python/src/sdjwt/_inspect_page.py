@@ -143,7 +143,7 @@ def _node(node: Node, linked: set[int] | None) -> str:
     """A JSON value in HTML, as one line for each leaf. `linked` has the disclosures to which a digest leads already."""
     label = "" if node.label is None else f'{_tag("span", "name", _escaped(json_text(node.label)))}: '
     if node.kind in ("object", "array"):
-        opening, closing = "{}" if node.kind == "object" else "[]"
+        opening, closing = ("{", "}") if node.kind == "object" else ("[", "]")
         if not node.children:
             return _line(node, f"{label}{opening}{closing}")
         inner = "".join(_node(child, linked) for child in node.children)

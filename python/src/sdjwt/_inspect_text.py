@@ -69,7 +69,7 @@ def show(inside: Inside, verdict: Verdict | None, is_coloured: bool, is_full: bo
     painter = _Painter(is_coloured, is_full)
     sections = [_head(inside), _header(painter, inside), _payload(painter, inside), _signature(painter, inside),
                 _disclosures(painter, inside), _hidden(painter, inside), _binding(painter, inside), _verdict(painter, verdict)]
-    texts = ["\n".join(lines) for lines in map(list, sections)]
+    texts = ["\n".join(lines) for lines in sections]
     print("\n\n".join(text for text in texts if text))
 
 

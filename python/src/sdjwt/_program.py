@@ -7,6 +7,7 @@ from __future__ import annotations
 
 import argparse
 import hmac
+import io
 import os
 import shutil
 import signal
@@ -229,8 +230,8 @@ def main() -> int:
         if sys.stdout is None:
             raise OSError(0, "standard output is closed")
         for stream in (sys.stdout, sys.stderr):
-            if stream is not None:
-                stream.reconfigure(encoding="utf-8", errors="backslashreplace")  # type: ignore[union-attr]
+            if isinstance(stream, io.TextIOWrapper):
+                stream.reconfigure(encoding="utf-8", errors="backslashreplace")
         status = run(sys.argv[1:])
         sys.stdout.flush()
     except OSError as error:

@@ -18,7 +18,6 @@ _GROUPS: dict[str, ec.EllipticCurve] = {"P-256": ec.SECP256R1(), "P-384": ec.SEC
 _RSA_PRIVATE = ("d", "p", "q", "dp", "dq", "qi")
 
 Private = Union[ec.EllipticCurvePrivateKey, ed25519.Ed25519PrivateKey, rsa.RSAPrivateKey]
-Public = Union[ec.EllipticCurvePublicKey, ed25519.Ed25519PublicKey, rsa.RSAPublicKey]
 Jwk = dict[str, Any]
 
 
@@ -36,9 +35,10 @@ def generated(alg: str) -> Private:
     return rsa.generate_private_key(_RSA_EXPONENT, _RSA_BITS)
 
 
-def private_pem(key: Private) -> str:
+def private_pem(key: Any) -> str:
     """A private key as PEM (PKCS #8), not encrypted."""
-    return key.private_bytes(serialization.Encoding.PEM, serialization.PrivateFormat.PKCS8, serialization.NoEncryption()).decode()
+    written: bytes = key.private_bytes(serialization.Encoding.PEM, serialization.PrivateFormat.PKCS8, serialization.NoEncryption())
+    return written.decode()
 
 
 def _text(content: bytes) -> str:
@@ -56,7 +56,7 @@ def _curve_of(key: ec.EllipticCurvePublicKey | ec.EllipticCurvePrivateKey) -> st
     raise NoKey(f"its curve is not one of {', '.join(_GROUPS)}")
 
 
-def public_jwk(key: Private | Public) -> Jwk:
+def public_jwk(key: Any) -> Jwk:
     """The public half of a key as a JWK (RFC 7518 section 6, RFC 8037 section 2)."""
     if isinstance(key, (ec.EllipticCurvePrivateKey, ed25519.Ed25519PrivateKey, rsa.RSAPrivateKey)):
         return public_jwk(key.public_key())
@@ -72,11 +72,12 @@ def public_jwk(key: Private | Public) -> Jwk:
     raise NoKey("its type is not one of EC, Ed25519, RSA")
 
 
-def private_members(key: Private) -> Jwk:
+def private_members(key: Any) -> Jwk:
     """The private members of a JWK."""
-    if isinstance(key, ec.EllipticCurvePrivateKey):
-        return {"d": _number(key.private_numbers().private_value, CURVES[_curve_of(key)][1])}
-    if isinstance(key, ed25519.Ed25519PrivateKey):
+    public = public_jwk(key)
+    if public["kty"] == "EC":
+        return {"d": _number(key.private_numbers().private_value, CURVES[public["crv"]][1])}
+    if public["kty"] == "OKP":
         return {"d": _text(key.private_bytes(serialization.Encoding.Raw, serialization.PrivateFormat.Raw, serialization.NoEncryption()))}
     numbers = key.private_numbers()
     values = (numbers.d, numbers.p, numbers.q, numbers.dmp1, numbers.dmq1, numbers.iqmp)
@@ -113,8 +114,8 @@ def public_from_pem(content: bytes) -> Jwk:
         if b"PRIVATE KEY" in content:
             return public_jwk(private_from_pem(content))
         if b"BEGIN CERTIFICATE" in content:
-            return public_jwk(x509.load_pem_x509_certificate(content).public_key())  # type: ignore[arg-type]
-        return public_jwk(serialization.load_pem_public_key(content))  # type: ignore[arg-type]
+            return public_jwk(x509.load_pem_x509_certificate(content).public_key())
+        return public_jwk(serialization.load_pem_public_key(content))
     except (ValueError, UnsupportedAlgorithm) as fault:
         raise fault if isinstance(fault, NoKey) else NoKey("its PEM can't be read") from None
 

@@ -93,7 +93,7 @@ def order_of(given: Input, content: bytes, holder: str | None, key: Signing | No
         return order
     if "key" in order:
         raise usage("--key is given, and the order has a member `key` already")
-    named = {"kid": key.kid} if key.kid is not None and "kid" not in order else {}
+    named: dict[str, Any] = {"kid": key.kid} if key.kid is not None and "kid" not in order else {}
     if key.shared is not None:
         named.update({"key": key.shared.get("k")}, **({"alg": key.alg} if key.alg and "alg" not in order else {}))
     return {**order, **named}
