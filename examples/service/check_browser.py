@@ -38,7 +38,7 @@ def by_browser(service: Service, pictures: Path | None) -> str | None:
 
 
 def _focused(page: Page) -> str:
-    return page.get("document.activeElement.id || document.activeElement.textContent")
+    return str(page.get("document.activeElement.id || document.activeElement.textContent"))
 
 
 def _tab_to(page: Page, wanted: str) -> None:

@@ -52,7 +52,7 @@ class Door:
         self._visits: dict[str, _Visit] = {}
         self._verdicts: deque[dict[str, str]] = deque(maxlen=REMEMBERED)
 
-    def ask(self) -> dict[str, str]:
+    def ask(self, _: Form) -> dict[str, Any]:
         """What a visitor is asked for, with a nonce for this visit."""
         nonce = secrets.token_urlsafe(16)
         with self._lock:

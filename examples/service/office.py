@@ -30,7 +30,7 @@ class Office:
         self._register: deque[dict[str, Any]] = deque(maxlen=REMEMBERED)
         self.public_keys = {"keys": [{**_public_jwk(self._key), "kid": self._kid}]}
 
-    def issue(self, form: Form) -> dict[str, str]:
+    def issue(self, form: Form) -> dict[str, Any]:
         """A new ticket, for the holder whose public key is in the form."""
         claims = {name: filled(form, name, most) for name, most in (("event", 60), ("name", 60), ("seat", 10))}
         born, until = _day(form, "born"), _day(form, "until")
@@ -85,10 +85,16 @@ def _public_jwk(private: ec.EllipticCurvePrivateKey) -> dict[str, str]:
 def _holder_key(form: Form) -> dict[str, str]:
     """The wallet's public key, without any other member that came with it."""
     jwk = form.get("holder")
-    x, y = (jwk.get("x"), jwk.get("y")) if isinstance(jwk, dict) else (None, None)
+    x, y = (str(jwk.get(name)) for name in ("x", "y")) if isinstance(jwk, dict) else ("", "")
     try:
-        point = [int.from_bytes(urlsafe_b64decode(re.fullmatch(r"[\w-]{43}", n, re.A)[0] + "="), "big") for n in (x, y)]
-        ec.EllipticCurvePublicNumbers(point[0], point[1], ec.SECP256R1()).public_key()
-    except (TypeError, ValueError):
+        ec.EllipticCurvePublicNumbers(_number(x), _number(y), ec.SECP256R1()).public_key()
+    except ValueError:
         raise WrongField("holder", "The wallet sent no public key of P-256. Load the page again.") from None
     return {"kty": "EC", "crv": "P-256", "x": x, "y": y}
+
+
+def _number(text: str) -> int:
+    """A coordinate of a public key, of 32 bytes."""
+    if not re.fullmatch(r"[\w-]{43}", text, re.A):
+        raise ValueError(text)
+    return int.from_bytes(urlsafe_b64decode(text + "="), "big")

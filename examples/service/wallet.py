@@ -10,6 +10,7 @@ import sdjwt
 
 import words
 from forms import Form, WrongField, text_of, texts_of
+from view import view_of
 
 LONGEST = 64 * 1024
 
@@ -27,6 +28,10 @@ class Wallet:
 
     def __init__(self, issuers: dict[str, Any]) -> None:
         self._issuers = issuers
+
+    def look(self, form: Form) -> dict[str, Any]:
+        """What is in a ticket, for display."""
+        return {"view": view_of(text_of(form, "ticket", LONGEST))}
 
     def present(self, form: Form) -> dict[str, Any]:
         """The chosen claims of a ticket, bound to the door and its nonce.
