@@ -12,6 +12,23 @@ if TYPE_CHECKING:
 
 MARKUP = "<img src=x onerror=\"document.title='changed'\"><b>Eve</b>"
 TITLE = "Over 18, and nothing else"
+# The texts whose contrast to what is behind them is less than 4.5 to 1 (WCAG 1.4.3).
+POOR_CONTRAST = """(() => {
+  const parts = (color) => color.match(/[\\d.]+/g).map(Number);
+  const linear = (part) => (part / 255 <= 0.04045 ? part / 255 / 12.92 : ((part / 255 + 0.055) / 1.055) ** 2.4);
+  const light = ([red, green, blue]) => 0.2126 * linear(red) + 0.7152 * linear(green) + 0.0722 * linear(blue);
+  const behind = (element) => {
+    const color = parts(getComputedStyle(element).backgroundColor);
+    return color[3] === 0 ? behind(element.parentElement) : color;
+  };
+  const isPoor = (element) => {
+    const both = [light(parts(getComputedStyle(element).color)), light(behind(element))];
+    return (Math.max(...both) + 0.05) / (Math.min(...both) + 0.05) < 4.5;
+  };
+  const hasText = (element) => [...element.childNodes].some((node) => node.nodeType === 3 && node.data.trim());
+  const shown = [...document.querySelectorAll("body *")].filter((element) => element.checkVisibility() && hasText(element));
+  return shown.filter(isPoor).map((element) => element.outerHTML.slice(0, 100));
+})()"""
 VERDICT = "document.querySelector('#verdict .title')?.textContent"
 
 
@@ -172,7 +189,7 @@ def _expired(page: Page) -> None:
 
 
 def _fits(page: Page) -> None:
-    """Nothing is wider than the page, however narrow it is."""
+    """Nothing is wider than the page, however narrow it is, and each text is read on what is behind it."""
     page.get("document.querySelector('#tickets input').click()")
     page.wait("document.getElementById('choice/over_18')")
     page.get("for (const details of document.querySelectorAll('details')) details.open = true")
@@ -182,6 +199,7 @@ def _fits(page: Page) -> None:
             assert page.get("document.documentElement.scrollWidth") <= width, width
             for box in ("#office", "#wallet", "#door"):
                 assert page.get(f"document.querySelector('{box}').getBoundingClientRect().right") <= width, (box, width)
+            assert not page.get(POOR_CONTRAST), (scheme, page.get(POOR_CONTRAST))
     page.get("for (const details of document.querySelectorAll('details')) details.open = false")
 
 

@@ -26,14 +26,14 @@ def _arguments() -> argparse.Namespace:
 
 
 def _serve(given: argparse.Namespace) -> None:
-    """Makes the three ends and serves them. Only the office's public keys and what requests carry go between them."""
+    """Makes the three ends and serves them. Only the office's public key and what requests carry go between them."""
     from door import Door
     from office import Office
     from server import Offer, listen
     from wallet import Wallet
 
     office = Office()
-    wallet, door = Wallet(office.public_keys), Door(office.public_keys, given.visit_seconds)
+    wallet, door = Wallet(office.public_key), Door(office.public_key, given.visit_seconds)
     routes = {
         "/office/issue": office.issue, "/wallet/look": wallet.look, "/wallet/present": wallet.present,
         "/door/ask": door.ask, "/door/admit": door.admit}
