@@ -96,7 +96,8 @@ class Holder:
         self.jwk: Json = {"kty": "EC", "crv": "P-256", "x": _base64url(_32(point.x)), "y": _base64url(_32(point.y))}
 
     def ticket(self, **fields: str) -> str:
-        return str(self._service.done("/office/issue", {**ADA, **fields, "holder": self.jwk})["ticket"])
+        form: Json = {**ADA, **fields, "holder": self.jwk}
+        return str(self._service.done("/office/issue", form)["ticket"])
 
     def sign(self, text: str) -> str:
         from cryptography.hazmat.primitives import hashes

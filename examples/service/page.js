@@ -54,7 +54,7 @@ function clearFaults(form) {
 // Says what is wrong, at the field if there is one, which gets the focus.
 function tellFault(form, problem) {
   const field = problem.field && form.elements[problem.field];
-  if (!(field instanceof HTMLElement)) {
+  if (!(field instanceof HTMLElement) || field.type === "radio") {
     say(form, problem.message);
     return;
   }
