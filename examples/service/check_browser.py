@@ -26,8 +26,8 @@ POOR_CONTRAST = """(() => {
     return (Math.max(...both) + 0.05) / (Math.min(...both) + 0.05) < 4.5;
   };
   const hasText = (element) => [...element.childNodes].some((node) => node.nodeType === 3 && node.data.trim());
-  const shown = [...document.querySelectorAll("body *")].filter((element) => element.checkVisibility() && hasText(element));
-  return shown.filter(isPoor).map((element) => element.outerHTML.slice(0, 100));
+  const isShown = (element) => element.checkVisibility() && hasText(element);
+  return [...document.querySelectorAll("body *")].filter(isShown).filter(isPoor).map((element) => element.outerHTML.slice(0, 100));
 })()"""
 VERDICT = "document.querySelector('#verdict .title')?.textContent"
 
@@ -74,10 +74,10 @@ def _press(page: Page, button: str) -> None:
     page.press("Enter")
 
 
-def _verdict(page: Page, title: str) -> None:
-    """Checks what is in the box of the door, and waits for this verdict."""
+def _verdict(page: Page, title: str, button: str = "Check the ticket") -> None:
+    """Has what was shown last checked, and waits for this verdict."""
     page.get("document.querySelector('#verdict').replaceChildren()")
-    _press(page, "Check the ticket")
+    _press(page, button)
     found = page.wait(VERDICT)
     assert found[2:] == title and found[0] == ("✓" if title.startswith("Admitted") else "✕"), found
 
@@ -125,16 +125,11 @@ def _walk(page: Page) -> None:
 
 
 def _wrong_hands(page: Page) -> None:
-    """The same again, a copy in another visit, a letter that was changed, and nothing at all."""
+    """The same again, a copy in another visit, a claim that was changed, another key, and nothing at all."""
     _verdict(page, "Not admitted: shown before")
-    before = page.get("document.getElementById('nonce').value")
-    _press(page, "next")
-    page.wait(f"document.getElementById('nonce').value !== {json.dumps(before)}")
-    _verdict(page, "Not admitted: made for another visit")
-    _show(page)
-    presented = "document.getElementById('presented').value"
-    page.get(f"{presented} = {presented}.replace('~W', '~X')")
-    _verdict(page, "Not admitted: changed")
+    _verdict(page, "Not admitted: made for another visit", "copy")
+    _verdict(page, "Not admitted: changed", "change")
+    _verdict(page, "Not admitted: another person's ticket", "stranger")
     page.get("document.getElementById('presented').value = ''")
     _verdict(page, "Not admitted: no ticket")
     _show(page)
