@@ -13,6 +13,7 @@ import argparse
 import importlib.util
 import json
 import os
+import shutil
 import socket
 import subprocess
 import sys
@@ -24,12 +25,14 @@ import urllib.request
 from base64 import urlsafe_b64decode, urlsafe_b64encode
 from datetime import date
 from pathlib import Path
+from typing import Any, Callable
 
 HERE = Path(__file__).resolve().parent
 REQUEST_SECONDS = 2
-ADA = {"event": "Jazz night", "name": "Ada", "seat": "B12", "born": "1990-12-10", "until": "2099-12-31"}
+Json = dict[str, Any]
+ADA: Json = {"event": "Jazz night", "name": "Ada", "seat": "B12", "born": "1990-12-10", "until": "2099-12-31"}
 OVER_18 = ["/over_18"]
-HOSTILE = [
+HOSTILE: list[Any] = [
     "", " ", "<script>document.title='x'</script>", "\"'><img src=x onerror=alert(1)>", "\x00\x01", "\u202e\U0001f600",
     "\ud800", "~" * 1_000, "a" * 50_000, "a" * 70_000, "{" * 5_000, "../../etc/passwd", "%s%n", "é" * 40_000, None,
     True, 0, -1, 10**400, 1.5, [], ["/seat", 7], ["/" * 2_000], [""] * 60, {}, {"x": 1, "y": 2},
@@ -43,6 +46,7 @@ class Service:
         self._errors = tempfile.TemporaryFile("w+")
         words = [sys.executable, str(HERE / "service.py"), "0", "--request-seconds", str(REQUEST_SECONDS), *options]
         self._process = subprocess.Popen(words, stdout=subprocess.PIPE, stderr=self._errors, text=True)
+        assert self._process.stdout is not None
         self.base = self._process.stdout.readline().strip().rstrip("/")
         self.port = int(self.base.rpartition(":")[2] or 0)
 
@@ -62,7 +66,7 @@ class Service:
         self._errors.seek(0)
         return self._errors.read()
 
-    def ask(self, path: str, form: object = None, **headers: str) -> tuple[int, dict]:
+    def ask(self, path: str, form: object = None, **headers: str) -> tuple[int, Json]:
         """The status and the JSON of an answer."""
         sent = None if form is None else form if isinstance(form, bytes) else json.dumps(form).encode()
         request = urllib.request.Request(self.base + path, sent, {"Content-Type": "application/json", **headers})
@@ -72,13 +76,14 @@ class Service:
         except urllib.error.HTTPError as fault:
             return fault.code, json.load(fault)
 
-    def done(self, path: str, form: object = None) -> dict:
+    def done(self, path: str, form: object = None) -> Json:
         status, answer = self.ask(path, form)
         assert status == 200, (path, status, answer)
         return answer
 
-    def verdict(self, nonce: str, presented: str) -> dict:
-        return self.done("/door/admit", {"nonce": nonce, "presented": presented})["verdict"]
+    def verdict(self, nonce: str, presented: str) -> Json:
+        verdict: Json = self.done("/door/admit", {"nonce": nonce, "presented": presented})["verdict"]
+        return verdict
 
 
 class Holder:
@@ -88,10 +93,11 @@ class Holder:
         from cryptography.hazmat.primitives.asymmetric import ec
         self._service, self._key = service, ec.generate_private_key(ec.SECP256R1())
         point = self._key.public_key().public_numbers()
-        self.jwk = {"kty": "EC", "crv": "P-256", "x": _base64url(_32(point.x)), "y": _base64url(_32(point.y))}
+        self.jwk: Json = {"kty": "EC", "crv": "P-256", "x": _base64url(_32(point.x)), "y": _base64url(_32(point.y))}
 
     def ticket(self, **fields: str) -> str:
-        return self._service.done("/office/issue", {**ADA, **fields, "holder": self.jwk})["ticket"]
+        form: Json = {**ADA, **fields, "holder": self.jwk}
+        return str(self._service.done("/office/issue", form)["ticket"])
 
     def sign(self, text: str) -> str:
         from cryptography.hazmat.primitives import hashes
@@ -99,11 +105,11 @@ class Holder:
         r, s = utils.decode_dss_signature(self._key.sign(text.encode(), ec.ECDSA(hashes.SHA256())))
         return _base64url(_32(r) + _32(s))
 
-    def present(self, ticket: str, demand: dict, show: list[str] = OVER_18) -> str:
-        asked = {"ticket": ticket, "show": show, "audience": demand["audience"], "nonce": demand["nonce"]}
+    def present(self, ticket: str, demand: Json, show: list[str] = OVER_18) -> str:
+        asked: Json = {"ticket": ticket, "show": show, "audience": demand["audience"], "nonce": demand["nonce"]}
         first = self._service.done("/wallet/present", asked)
         asked.update(at=first["at"], signature=self.sign(first["sign"]))
-        return self._service.done("/wallet/present", asked)["presentation"]
+        return str(self._service.done("/wallet/present", asked)["presentation"])
 
 
 def _32(number: int) -> bytes:
@@ -114,7 +120,7 @@ def _base64url(octets: bytes) -> str:
     return urlsafe_b64encode(octets).rstrip(b"=").decode()
 
 
-def is_refused(verdict: dict, title: str) -> None:
+def is_refused(verdict: Json, title: str) -> None:
     """Not admitted for this reason, with what to do, and without the words of files."""
     assert not verdict["admitted"] and verdict["title"] == f"Not admitted: {title}", verdict
     assert verdict["why"] and verdict["todo"], verdict
@@ -192,7 +198,7 @@ def check_others(service: Service) -> None:
     ada, eve = Holder(service), Holder(service)
     ticket = ada.ticket()
 
-    def refused(title: str, present: object) -> None:
+    def refused(title: str, present: Callable[[Json], str]) -> None:
         demand = service.done("/door/ask", {})
         is_refused(service.verdict(demand["nonce"], present(demand)), title)
 
@@ -226,7 +232,7 @@ def check_hostile(service: Service) -> int:
     ada, demand = Holder(service), service.done("/door/ask", {})
     ticket = ada.ticket()
     presented = ada.present(ticket, demand)
-    forms = {
+    forms: dict[str, Json] = {
         "/office/issue": {**ADA, "holder": ada.jwk}, "/wallet/look": {"ticket": ticket},
         "/wallet/present": {**demand, "ticket": ticket, "show": OVER_18, "at": 1, "signature": "A" * 86},
         "/door/admit": {**demand, "presented": presented}}
@@ -240,7 +246,9 @@ def check_hostile(service: Service) -> int:
                 tried += 1
         assert service.ask(path, {})[0] == 422
     nested = _hostile_token()
-    for value in (nested, ticket + "~", ticket * 2, presented[:-3], "." * 1_000, "e30.e30.~~"):
+    deep = _base64url(b"[" * 900 + b"]" * 900)
+    for value in (
+            nested, ticket + "~", ticket * 2, presented[:-3], "." * 1_000, "e30.e30.~~", f"{ticket}e30.{deep}.e30"):
         assert service.ask("/wallet/look", {"ticket": value})[0] == 200
     assert service.done("/wallet/look", {"ticket": nested})["view"] is not None
     return tried
@@ -260,7 +268,7 @@ def _hostile_token() -> str:
 
 def check_requests(service: Service) -> None:
     """Requests that are not the page's, and what comes with an answer."""
-    issue = {**ADA, "holder": Holder(service).jwk}
+    issue: Json = {**ADA, "holder": Holder(service).jwk}
     assert service.ask("/office/issue", issue, Origin="http://evil.example")[0] == 403
     assert service.ask("/office/issue", issue, Host="evil.example")[0] == 403
     assert service.ask("/office/issue", issue, Origin="null")[0] == 403
@@ -325,19 +333,26 @@ def check_slow(service: Service) -> None:
 
 def check_start(service: Service) -> None:
     """What is missing is said, with what to do: the library, cryptography, or a port."""
-    start = f"import sys, runpy; sys.path.insert(0, {str(HERE)!r}); sys.argv = ['service.py', sys.argv[1]]; {{}}; " \
-            f"runpy.run_path({str(HERE / 'service.py')!r}, run_name='__main__')"
     nowhere = {**os.environ, "SDJWT_LIBRARY": "/nowhere/libsdjwt.so"}
-    for change, port, environment, said in (
-            ("pass", "0", nowhere, "sh c/build.sh --look"),
-            ("sys.modules['cryptography'] = None", "0", None, "pip install cryptography"),
-            ("pass", str(service.port), None, "Name another one")):
-        words = [sys.executable, "-c", start.format(change), port]
-        ended = subprocess.run(words, env=environment, capture_output=True, text=True, timeout=30)
-        assert ended.returncode == 1 and said in ended.stderr and "Traceback" not in ended.stderr, ended
-    words = [sys.executable, str(HERE / "service.py"), "70000"]
-    ended = subprocess.run(words, capture_output=True, text=True, timeout=30)
-    assert ended.returncode == 2 and "Traceback" not in ended.stderr, ended
+    with tempfile.TemporaryDirectory() as folder:
+        alone = Path(shutil.copytree(HERE, Path(folder, "examples", "service")))
+        for status, said, ended in (
+                (1, "sh c/build.sh --look", _start(HERE, "0", environment=nowhere)),
+                (1, "pip install ./sdjwt", _start(alone, "0", without="sdjwt")),
+                (1, "pip install cryptography", _start(HERE, "0", without="cryptography")),
+                (1, "Name another one", _start(HERE, str(service.port))),
+                (2, "invalid choice: 70000", _start(HERE, "70000"))):
+            assert ended.returncode == status and said in ended.stderr and "Traceback" not in ended.stderr, ended
+
+
+def _start(
+    folder: Path, port: str, without: str = "", environment: dict[str, str] | None = None,
+) -> subprocess.CompletedProcess[str]:
+    """Starts the service of a folder, as if a package was not installed."""
+    start = "import runpy, sys; sys.modules[sys.argv.pop(1)] = None; sys.path.insert(0, sys.argv.pop(1)); " \
+            "runpy.run_path(sys.path[0] + '/service.py', run_name='__main__')"
+    words = [sys.executable, "-c", start, without or "no_package", str(folder), port]
+    return subprocess.run(words, env=environment, capture_output=True, text=True, timeout=30)
 
 
 def by_requests(service: Service) -> None:

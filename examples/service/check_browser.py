@@ -12,6 +12,23 @@ if TYPE_CHECKING:
 
 MARKUP = "<img src=x onerror=\"document.title='changed'\"><b>Eve</b>"
 TITLE = "Over 18, and nothing else"
+# The texts whose contrast to what is behind them is less than 4.5 to 1 (WCAG 1.4.3).
+POOR_CONTRAST = """(() => {
+  const parts = (color) => color.match(/[\\d.]+/g).map(Number);
+  const linear = (part) => (part / 255 <= 0.04045 ? part / 255 / 12.92 : ((part / 255 + 0.055) / 1.055) ** 2.4);
+  const light = ([red, green, blue]) => 0.2126 * linear(red) + 0.7152 * linear(green) + 0.0722 * linear(blue);
+  const behind = (element) => {
+    const color = parts(getComputedStyle(element).backgroundColor);
+    return color[3] === 0 ? behind(element.parentElement) : color;
+  };
+  const isPoor = (element) => {
+    const both = [light(parts(getComputedStyle(element).color)), light(behind(element))];
+    return (Math.max(...both) + 0.05) / (Math.min(...both) + 0.05) < 4.5;
+  };
+  const hasText = (element) => [...element.childNodes].some((node) => node.nodeType === 3 && node.data.trim());
+  const isShown = (element) => element.checkVisibility() && hasText(element);
+  return [...document.querySelectorAll("body *")].filter(isShown).filter(isPoor).map((element) => element.outerHTML.slice(0, 100));
+})()"""
 VERDICT = "document.querySelector('#verdict .title')?.textContent"
 
 
@@ -38,7 +55,7 @@ def by_browser(service: Service, pictures: Path | None) -> str | None:
 
 
 def _focused(page: Page) -> str:
-    return page.get("document.activeElement.id || document.activeElement.textContent")
+    return str(page.get("document.activeElement.id || document.activeElement.textContent"))
 
 
 def _tab_to(page: Page, wanted: str) -> None:
@@ -57,10 +74,10 @@ def _press(page: Page, button: str) -> None:
     page.press("Enter")
 
 
-def _verdict(page: Page, title: str) -> None:
-    """Checks what is in the box of the door, and waits for this verdict."""
+def _verdict(page: Page, title: str, button: str = "Check the ticket") -> None:
+    """Has what was shown last checked, and waits for this verdict."""
     page.get("document.querySelector('#verdict').replaceChildren()")
-    _press(page, "Check the ticket")
+    _press(page, button)
     found = page.wait(VERDICT)
     assert found[2:] == title and found[0] == ("✓" if title.startswith("Admitted") else "✕"), found
 
@@ -108,16 +125,11 @@ def _walk(page: Page) -> None:
 
 
 def _wrong_hands(page: Page) -> None:
-    """The same again, a copy in another visit, a letter that was changed, and nothing at all."""
+    """The same again, a copy in another visit, a claim that was changed, another key, and nothing at all."""
     _verdict(page, "Not admitted: shown before")
-    before = page.get("document.getElementById('nonce').value")
-    _press(page, "next")
-    page.wait(f"document.getElementById('nonce').value !== {json.dumps(before)}")
-    _verdict(page, "Not admitted: made for another visit")
-    _show(page)
-    presented = "document.getElementById('presented').value"
-    page.get(f"{presented} = {presented}.replace('~W', '~X')")
-    _verdict(page, "Not admitted: changed")
+    _verdict(page, "Not admitted: made for another visit", "copy")
+    _verdict(page, "Not admitted: changed", "change")
+    _verdict(page, "Not admitted: another person's ticket", "stranger")
     page.get("document.getElementById('presented').value = ''")
     _verdict(page, "Not admitted: no ticket")
     _show(page)
@@ -172,7 +184,7 @@ def _expired(page: Page) -> None:
 
 
 def _fits(page: Page) -> None:
-    """Nothing is wider than the page, however narrow it is."""
+    """Nothing is wider than the page, however narrow it is, and each text is read on what is behind it."""
     page.get("document.querySelector('#tickets input').click()")
     page.wait("document.getElementById('choice/over_18')")
     page.get("for (const details of document.querySelectorAll('details')) details.open = true")
@@ -182,6 +194,7 @@ def _fits(page: Page) -> None:
             assert page.get("document.documentElement.scrollWidth") <= width, width
             for box in ("#office", "#wallet", "#door"):
                 assert page.get(f"document.querySelector('{box}').getBoundingClientRect().right") <= width, (box, width)
+            assert not page.get(POOR_CONTRAST), (scheme, page.get(POOR_CONTRAST))
     page.get("for (const details of document.querySelectorAll('details')) details.open = false")
 
 

@@ -22,7 +22,7 @@ KEYS = {"Tab": (9, ""), "Enter": (13, "\r"), " ": (32, " ")}
 
 def chromium() -> str | None:
     """Where it is, or None."""
-    return next((found for found in map(shutil.which, NAMES) if found), None)
+    return next((found for found in (shutil.which(name) for name in NAMES) if found), None)
 
 
 class Page:
@@ -39,8 +39,9 @@ class Page:
 
         # all that Python opens is closed there, but for 3 and 4, at which Chromium looks
         words = [program, f"--user-data-dir={self._profile}", *OPTIONS]
-        nothing = {"stdin": subprocess.DEVNULL, "stdout": subprocess.DEVNULL, "stderr": subprocess.DEVNULL}
-        self._process = subprocess.Popen(words, close_fds=False, preexec_fn=place, start_new_session=True, **nothing)
+        self._process = subprocess.Popen(
+            words, close_fds=False, preexec_fn=place, start_new_session=True,
+            stdin=subprocess.DEVNULL, stdout=subprocess.DEVNULL, stderr=subprocess.DEVNULL)
         os.close(their_in)
         os.close(their_out)
         self._unread, self._count, self._session = b"", 0, ""

@@ -43,16 +43,16 @@ class _Visit:
 class Door:
     """The verifier. Many visitors may come at once: the lock is for its own lists, and not held during a check."""
 
-    def __init__(self, issuers: dict[str, Any], visit_seconds: float = 300) -> None:
+    def __init__(self, issuer: dict[str, str], visit_seconds: float = 300) -> None:
         self._policy = sdjwt.Policy({
-            "keys": issuers, "algs": ["ES256"], "typ": TYPE, "iss": ISSUER, "require": [CLAIM], "skew": 30,
+            "keys": [issuer], "algs": ["ES256"], "typ": TYPE, "iss": ISSUER, "require": [CLAIM], "skew": 30,
             "binding": {"aud": AUDIENCE, "max_age": 300}})
         self._visit_seconds = visit_seconds
         self._lock = threading.Lock()
         self._visits: dict[str, _Visit] = {}
         self._verdicts: deque[dict[str, str]] = deque(maxlen=REMEMBERED)
 
-    def ask(self) -> dict[str, str]:
+    def ask(self, _: Form) -> dict[str, Any]:
         """What a visitor is asked for, with a nonce for this visit."""
         nonce = secrets.token_urlsafe(16)
         with self._lock:

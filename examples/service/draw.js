@@ -61,11 +61,17 @@ export function seen(view, isAdmitted) {
   ];
 }
 
-// The texts of a token, each with what it is.
+// The texts of a token, each with who made it and what it says. Digests in it are joined to their disclosures.
 export function parts(view) {
+  const digests = [...view.claims.map((row) => row.digest), ...view.hidden];
   return view.parts.map((part) => {
-    const digest = part.digest ? [make("br"), "its digest: ", digestOf(part.digest)] : [];
-    return make("li", {}, make("strong", {}, said(part.label)), make("code", {}, part.text), ...digest);
+    const digest = part.digest ? [" has the digest ", digestOf(part.digest)] : [];
+    const says = part.says.split(/"([\w-]+)"/).map((word, index) => {
+      if (index % 2 === 0) return word;
+      return digests.includes(word) ? digestOf(word) : `"${word}"`;
+    });
+    return make("li", {}, make("strong", {}, said(part.label)), ...digest,
+      make("pre", {}, ...says), make("p", { class: "text" }, "As text: ", make("code", {}, part.text)));
   });
 }
 

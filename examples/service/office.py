@@ -1,10 +1,7 @@
 """The office, which issues tickets. It has a private key, and knows all that it wrote into each ticket."""
 from __future__ import annotations
 
-import re
-import secrets
 import threading
-from base64 import urlsafe_b64decode, urlsafe_b64encode
 from collections import deque
 from datetime import date, datetime, timedelta, timezone
 from typing import Any
@@ -25,12 +22,11 @@ class Office:
 
     def __init__(self) -> None:
         self._key = ec.generate_private_key(ec.SECP256R1())
-        self._kid = f"office-{secrets.token_hex(4)}"
+        self.public_key = sdjwt.public_jwk(self._key, kid=True)
         self._lock = threading.Lock()
         self._register: deque[dict[str, Any]] = deque(maxlen=REMEMBERED)
-        self.public_keys = {"keys": [{**_public_jwk(self._key), "kid": self._kid}]}
 
-    def issue(self, form: Form) -> dict[str, str]:
+    def issue(self, form: Form) -> dict[str, Any]:
         """A new ticket, for the holder whose public key is in the form."""
         claims = {name: filled(form, name, most) for name, most in (("event", 60), ("name", 60), ("seat", 10))}
         born, until = _day(form, "born"), _day(form, "until")
@@ -38,7 +34,7 @@ class Office:
         payload = {
             "iss": ISSUER, "exp": _end_of(until), "cnf": {"jwk": _holder_key(form)}, **claims,
             "birthdate": born.isoformat(), "over_18": age >= 18, "over_65": age >= 65}
-        order = {"payload": payload, "hide": HIDDEN, "kid": self._kid, "typ": TYPE}
+        order = {"payload": payload, "hide": HIDDEN, "kid": self.public_key["kid"], "typ": TYPE}
         ticket = sdjwt.issue(order, sign=self._key)
         with self._lock:
             self._register.append({**claims, "birthdate": born.isoformat(), "until": until.isoformat()})
@@ -47,7 +43,7 @@ class Office:
     def state(self) -> dict[str, Any]:
         """What the office knows: its key, and each ticket with all of its claims, the newest first."""
         with self._lock:
-            return {"issuer": ISSUER, "kid": self._kid, "tickets": list(reversed(self._register))}
+            return {"issuer": ISSUER, "kid": self.public_key["kid"], "tickets": list(reversed(self._register))}
 
 
 def _today() -> date:
@@ -76,19 +72,12 @@ def _end_of(last: date) -> int:
     return int((midnight + timedelta(days=1)).timestamp())
 
 
-def _public_jwk(private: ec.EllipticCurvePrivateKey) -> dict[str, str]:
-    numbers = private.public_key().public_numbers()
-    x, y = (urlsafe_b64encode(n.to_bytes(32, "big")).rstrip(b"=").decode() for n in (numbers.x, numbers.y))
-    return {"kty": "EC", "crv": "P-256", "x": x, "y": y}
-
-
 def _holder_key(form: Form) -> dict[str, str]:
     """The wallet's public key, without any other member that came with it."""
-    jwk = form.get("holder")
-    x, y = (jwk.get("x"), jwk.get("y")) if isinstance(jwk, dict) else (None, None)
     try:
-        point = [int.from_bytes(urlsafe_b64decode(re.fullmatch(r"[\w-]{43}", n, re.A)[0] + "="), "big") for n in (x, y)]
-        ec.EllipticCurvePublicNumbers(point[0], point[1], ec.SECP256R1()).public_key()
-    except (TypeError, ValueError):
-        raise WrongField("holder", "The wallet sent no public key of P-256. Load the page again.") from None
-    return {"kty": "EC", "crv": "P-256", "x": x, "y": y}
+        key = sdjwt.public_jwk(form["holder"])
+    except (KeyError, TypeError, ValueError):
+        key = {}
+    if key.get("crv") != "P-256":
+        raise WrongField("holder", "The wallet sent no public key of P-256. Load the page again.")
+    return key

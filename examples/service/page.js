@@ -54,7 +54,7 @@ function clearFaults(form) {
 // Says what is wrong, at the field if there is one, which gets the focus.
 function tellFault(form, problem) {
   const field = problem.field && form.elements[problem.field];
-  if (!(field instanceof HTMLElement)) {
+  if (!(field instanceof HTMLElement) || field.type === "radio") {
     say(form, problem.message);
     return;
   }
@@ -106,7 +106,12 @@ async function drawDoor() {
   list("verdicts", state.verdicts, (verdict) => [make("time", {}, verdict.at), ` ${verdict.title}`]);
 }
 
-const chosenTicket = () => find("show").querySelector("[name=ticket]:checked").value;
+function chosenTicket() {
+  const box = find("show").querySelector("[name=ticket]:checked");
+  if (!box) throw new Problem({ problem: "There is no ticket in the wallet. Get one at the office." });
+  return box.value;
+}
+
 const textOf = (view, pointer) => view.claims.find((row) => row.pointer === pointer)?.text ?? "?";
 
 async function drawTickets(chosen) {
@@ -156,19 +161,24 @@ async function issue(form) {
   say(form, "Issued. The ticket is in Ada’s wallet. ", make("a", { href: "#wallet-title" }, "Go to the wallet"));
 }
 
-// Ada comes to the door, which gives her a nonce. Her ticket is laid out by the service and signed in this browser.
-async function show(form) {
-  await newVisit();
+// A visitor comes to the door, which gives a nonce. The ticket is laid out by the service and signed in this browser.
+async function present(keys) {
   const ticket = chosenTicket();
-  const chosen = [...form.querySelectorAll("[name=show]:checked")];
-  const asked = { ticket, show: chosen.map((box) => box.value), audience: demand.audience, nonce: demand.nonce };
+  await newVisit();
+  const chosen = [...find("show").querySelectorAll("[name=show]:checked")].map((box) => box.value);
+  const asked = { ticket, show: chosen, audience: demand.audience, nonce: demand.nonce };
   const { sign, at } = await request("/wallet/present", asked);
-  const signature = await wallet.sign(pair, sign);
+  const signature = await wallet.sign(keys, sign);
   find("presented").value = (await request("/wallet/present", { ...asked, at, signature })).presentation;
   find("verdict").replaceChildren();
   find("seen").replaceChildren();
-  const count = chosen.length === 1 ? "one claim" : `${chosen.length || "no"} claims`;
-  say(form, `Signed for this visit, with ${count}. `, make("a", { href: "#door-title" }, "Go to the door"));
+  return chosen.length;
+}
+
+async function show(form) {
+  const count = await present(pair);
+  const claims = count === 1 ? "one claim" : `${count || "no"} claims`;
+  say(form, `Signed for this visit, with ${claims}. `, make("a", { href: "#door-title" }, "Go to the door"));
 }
 
 async function admit(form) {
@@ -178,15 +188,29 @@ async function admit(form) {
   await drawDoor();
 }
 
-async function nextVisitor() {
-  const form = find("admit");
+// What a thief might try. What comes of it, the door says.
+const tricks = {
+  copy: newVisit,
+  async change() {
+    await present(pair);
+    const parts = find("presented").value.split("~");
+    const changed = parts.length > 2 ? 1 : 0;       // the first claim that is shown, or else the signed part
+    const letter = parts[changed][30];
+    parts[changed] = `${parts[changed].slice(0, 30)}${letter === "A" ? "B" : "A"}${parts[changed].slice(31)}`;
+    find("presented").value = parts.join("~");
+  },
+  async stranger() {
+    await present(await wallet.makeKey());
+  },
+};
+
+async function cheat(trick) {
   try {
-    await newVisit();
-    say(form, "The door has a new number. Nothing was shown for it yet.");
+    await trick();
+    find("admit").requestSubmit();
   } catch (problem) {
-    tellFault(form, problem);
+    say(find("admit"), problem.message);
   }
-  remember();
 }
 
 async function removeTicket() {
@@ -205,7 +229,7 @@ function listen() {
   whenSent("issue", issue);
   whenSent("show", show);
   whenSent("admit", admit);
-  find("next").addEventListener("click", nextVisitor);
+  for (const [id, trick] of Object.entries(tricks)) find(id).addEventListener("click", () => cheat(trick));
   find("remove").addEventListener("click", removeTicket);
 }
 

@@ -26,22 +26,17 @@ def _arguments() -> argparse.Namespace:
 
 
 def _serve(given: argparse.Namespace) -> None:
-    """Makes the three ends and serves them. Only the office's public keys and what requests carry go between them."""
+    """Makes the three ends and serves them. Only the office's public key and what requests carry go between them."""
     from door import Door
-    from forms import text_of
     from office import Office
     from server import Offer, listen
-    from view import view_of
-    from wallet import LONGEST, Wallet
+    from wallet import Wallet
 
     office = Office()
-    wallet, door = Wallet(office.public_keys), Door(office.public_keys, given.visit_seconds)
+    wallet, door = Wallet(office.public_key), Door(office.public_key, given.visit_seconds)
     routes = {
-        "/office/issue": office.issue,
-        "/wallet/look": lambda form: {"view": view_of(text_of(form, "ticket", LONGEST))},
-        "/wallet/present": wallet.present,
-        "/door/ask": lambda form: door.ask(),
-        "/door/admit": door.admit}
+        "/office/issue": office.issue, "/wallet/look": wallet.look, "/wallet/present": wallet.present,
+        "/door/ask": door.ask, "/door/admit": door.admit}
     states = {"/office": office.state, "/door": door.state}
     servers = listen(given.port, Offer(routes, states, given.request_seconds))
     for other in servers[1:]:

@@ -33,7 +33,7 @@ def view_of(token: str) -> dict[str, Any] | None:
         "claims": [row for row in rows if row["state"] != "hidden"],
         "hidden": [row["digest"] for row in rows if row["state"] == "hidden"],
         "binding": _binding(inside["binding"]),
-        "parts": list(_parts(parts, inside["disclosures"]))}
+        "parts": list(_parts(inside, parts))}
 
 
 class _Opening:
@@ -110,23 +110,42 @@ def _text(place: tuple[str, ...], value: Any) -> str:
     return json.dumps(value, ensure_ascii=False)
 
 
-def _binding(token: str | None) -> dict[str, str] | None:
-    """What the holder signed for a visit: the door and the nonce."""
-    if token is None:
-        return None
+def _read(text: str) -> Any:
+    """What a part of a token says, or None."""
     try:
-        text = token.split(".")[1]
-        said = json.loads(urlsafe_b64decode(text + "=" * (-len(text) % 4)))
-        return {"audience": str(said["aud"]), "nonce": str(said["nonce"])}
-    except (IndexError, KeyError, RecursionError, TypeError, ValueError):
-        return {"audience": "?", "nonce": "?"}
+        return json.loads(urlsafe_b64decode(text + "=" * (-len(text) % 4)))
+    except (RecursionError, ValueError):
+        return None
 
 
-def _parts(parts: dict[str, Any], disclosures: list[Row]) -> Iterator[dict[str, str]]:
-    """The texts of a token, each with what it is."""
-    yield {"label": "signed by the office", "text": f"{parts['protected']}.{parts['payload']}.{parts['signature']}"}
-    for text, disclosure in zip(parts["disclosures"], disclosures):
+def _bound(token: str | None) -> Any:
+    """What the holder signed for a visit, or None."""
+    parts = (token or "").split(".")
+    return _read(parts[1]) if len(parts) == 3 else None
+
+
+def _binding(token: str | None) -> dict[str, str] | None:
+    """The door and the nonce for which the holder signed."""
+    said = _bound(token)
+    return {"audience": str(said.get("aud")), "nonce": str(said.get("nonce"))} if isinstance(said, dict) else None
+
+
+def _parts(inside: dict[str, Any], parts: dict[str, Any]) -> Iterator[dict[str, str]]:
+    """The texts of a token, each with who made it and what it says."""
+    signed = f"{parts['protected']}.{parts['payload']}.{parts['signature']}"
+    said = {"header": inside["header"], "payload": inside["payload"]}
+    yield {"label": "Signed by the office", "says": _written(said), "text": signed}
+    for text, disclosure in zip(parts["disclosures"], inside["disclosures"]):
         name = str(disclosure.get("name", "an element of a list"))
-        yield {"label": f"disclosure of “{LABELS.get(name, name)}”", "text": text, "digest": disclosure["digest"]}
-    if parts["binding"] is not None:
-        yield {"label": "signed by the holder for this visit", "text": parts["binding"]}
+        label = f"Disclosure of “{LABELS.get(name, name)}”"
+        yield {"label": label, "says": _written(_read(text), None), "text": text, "digest": disclosure["digest"]}
+    binding = parts["binding"]
+    if binding is not None:
+        yield {"label": "Signed by the holder for this visit", "says": _written(_bound(binding)), "text": binding}
+
+
+def _written(value: Any, indent: int | None = 1) -> str:
+    try:
+        return json.dumps(value, ensure_ascii=False, indent=indent)
+    except RecursionError:
+        return "(nested too deep to display)"

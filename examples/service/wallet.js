@@ -20,9 +20,13 @@ function stored(mode, request) {
 export async function openKey() {
   const kept = await stored("readonly", (store) => store.get("ada"));
   if (kept) return kept;
-  const made = await crypto.subtle.generateKey({ name: "ECDSA", namedCurve: "P-256" }, false, ["sign"]);
+  const made = await makeKey();
   await stored("readwrite", (store) => store.put(made, "ada"));
   return made;
+}
+
+export function makeKey() {
+  return crypto.subtle.generateKey({ name: "ECDSA", namedCurve: "P-256" }, false, ["sign"]);
 }
 
 // The public key, which the office puts into the ticket.

@@ -10,6 +10,7 @@ import sdjwt
 
 import words
 from forms import Form, WrongField, text_of, texts_of
+from view import view_of
 
 LONGEST = 64 * 1024
 
@@ -23,10 +24,14 @@ class _ToSign(Exception):
 
 
 class Wallet:
-    """The holder's end. It takes tickets of the offices whose public keys it is given."""
+    """The holder's end. It takes tickets of the office whose public key it is given."""
 
-    def __init__(self, issuers: dict[str, Any]) -> None:
-        self._issuers = issuers
+    def __init__(self, issuer: dict[str, str]) -> None:
+        self._issuer = issuer
+
+    def look(self, form: Form) -> dict[str, Any]:
+        """What is in a ticket, for display."""
+        return {"view": view_of(text_of(form, "ticket", LONGEST))}
 
     def present(self, form: Form) -> dict[str, Any]:
         """The chosen claims of a ticket, bound to the door and its nonce.
@@ -34,7 +39,7 @@ class Wallet:
         The private key is in the browser, so this takes two requests. The first has no `signature`, and gets the text
         to sign with its time; the second has these two besides, and gets the presentation.
         """
-        order = {"keys": self._issuers, "algs": ["ES256"], "want": texts_of(form, "show", 50),
+        order = {"keys": [self._issuer], "algs": ["ES256"], "want": texts_of(form, "show", 50),
                  "binding": {"aud": text_of(form, "audience", 256), "nonce": text_of(form, "nonce", 256)}}
         ticket, at, signature = text_of(form, "ticket", LONGEST), _time_of(form), _signature_of(form)
 
