@@ -31,6 +31,7 @@ LIMITS = [
     ("docs/sdjwt.1", r"from 1 to (\d+)", "members_max", 0),
     ("docs/sdjwt.1", r"at most ([\d,]+) bytes", "file_max", 0),
     ("docs/sdjwt_tools.1", r"from 1 to (\d+)", "feed_max", 0),
+    ("docs/REFUSALS.md", r"with N members, from 1 to ([\d,]+)", "members_max", 0),
     ("completions/_sdjwt", r"1 to (\d+)", "members_max", 0),
     ("completions/_sdjwt_tools", r"1 to (\d+)", "feed_max", 0),
     ("completions/_sdjwt_tools", r"<4-(\d+)>", "tokens_max", 3),
@@ -154,6 +155,9 @@ def check_words():
         }
         yield from (f"{file} has other words than {program}" for file, its in said.items() if set(its) != words)
         yield from (f"README.md does not say the words of {word}" for word in words if f"`{word} " not in readme)
+    table = re.findall(r"^\| `(sdjwt\w*) (\w+)[^`]*` \|", text_of("docs/REFUSALS.md"), re.M)
+    if set(table) != {(program, word) for program, words in programs.items() for word in words}:
+        yield "the table of commands in REFUSALS.md has other words than the programs"
     bash = re.search(r"2,convert\)\s+\S+ -W '([^']*)'", text_of("completions/sdjwt.bash"))[1].split()
     zsh = re.findall(r"^        '(\w+):", text_of("completions/_sdjwt").split("forms=")[1], re.M)
     if set(bash) != forms or set(zsh) != forms:

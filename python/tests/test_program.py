@@ -85,12 +85,26 @@ def test_the_version_says_whether_the_library_is_proved(keys, monkeypatch):
         assert f"sdjwt-keys {sdjwt.__version__}: {due}" in keys("--version").out
 
 
-@pytest.mark.parametrize("alg", ALGORITHMS)
-@pytest.mark.parametrize("form", ["pem", "jwk"])
-def test_a_token_of_each_algorithm_goes_from_issuer_to_verifier(alg, form, keys):
+@pytest.fixture
+def old_pairs(monkeypatch):
+    """Takes RSA keys that were made before, since it takes long to make one."""
     pytest.importorskip("cryptography")
-    if alg.startswith("HS"):
-        form = "jwk"
+    from public import Key
+
+    from sdjwt import _program_pairs
+    real, made = _program_pairs.generated, []
+
+    def generated(alg):
+        if alg[0] not in "PR":
+            return real(alg)
+        made.append(alg)
+        return Key(alg, len(made) % 2).pair
+    monkeypatch.setattr(_program_pairs, "generated", generated)
+
+
+@pytest.mark.parametrize("alg, form", [*((alg, "pem" if alg[0] != "H" else "jwk") for alg in ALGORITHMS), ("ES256", "jwk"), ("EdDSA", "jwk"),
+                                       ("PS256", "jwk")])
+def test_a_token_of_each_algorithm_goes_from_issuer_to_verifier(alg, form, keys, old_pairs):
     made = keys("keygen", "office", "--alg", alg, "--form", form).json
     secret, public = made.get("private", made.get("shared")), made.get("public", made.get("shared"))
     holder = keys("keygen", "ada").json
@@ -104,6 +118,13 @@ def test_a_token_of_each_algorithm_goes_from_issuer_to_verifier(alg, form, keys)
     other = keys("keygen", "other", "--alg", alg).json
     refused = keys("verify", "-", "--key", other.get("public", other.get("shared")), given=shown.out.encode())
     assert (refused.status, refused.line) == (1, "refused 10 badSignature")
+
+
+def test_an_rsa_key_is_long_enough(keys):
+    pytest.importorskip("cryptography")
+    assert keys("keygen", "office", "--alg", "RS256").status == 0
+    public = json.loads(Path("office.jwk").read_text())
+    assert len(base64.urlsafe_b64decode(public["n"] + "==")) == 3072 // 8 and public["alg"] == "RS256"
 
 
 def test_a_holder_with_a_shared_key_is_verified_by_its_kid(keys):

@@ -107,15 +107,18 @@ SCRIPT = """
   };
   // A line between two points: a curve over the gap of the columns, or, in one column, a way along the left edge.
   const draw = ({ card, site, line, from, to }, index, frame) => {
-    const whole = card.getBoundingClientRect(), text = site.getClientRects()[0];
+    // of a digest that is broken over several lines the longest piece
+    const pieces = [...site.getClientRects()], whole = card.getBoundingClientRect();
+    const text = pieces.reduce((longest, piece) => piece.width > longest.width ? piece : longest);
     const y1 = text.top + text.height / 2 - frame.top, y2 = whole.top + 20 - frame.top, x2 = whole.left - frame.left;
     if (text.right < whole.left) {
       const x1 = text.right + 3 - frame.left, bend = Math.max(30, (x2 - x1) / 2);
       line.setAttribute("d", `M${x1} ${y1} C${x1 + bend} ${y1} ${x2 - bend} ${y2} ${x2} ${y2}`);
       dot(from, x1, y1);
     } else {
-      const x1 = text.left - 3 - frame.left, lane = x2 - 8 - 4 * (index % 4);
-      line.setAttribute("d", `M${x1} ${y1} H${lane + 4} Q${lane} ${y1} ${lane} ${y1 + 4} V${y2 - 4} Q${lane} ${y2} ${lane + 4} ${y2} H${x2}`);
+      const x1 = text.left - 3 - frame.left, lane = x2 - 8 - 4 * (index % 4), turn = y2 > y1 ? 4 : -4;
+      line.setAttribute("d", `M${x1} ${y1} H${lane + 4} Q${lane} ${y1} ${lane} ${y1 + turn}`
+        + ` V${y2 - turn} Q${lane} ${y2} ${lane + 4} ${y2} H${x2}`);
       dot(from, x1, y1);
     }
     dot(to, x2, y2);

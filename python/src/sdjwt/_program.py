@@ -14,10 +14,9 @@ import signal
 import sys
 import warnings
 from collections.abc import Callable
-from typing import Any
+from typing import TYPE_CHECKING, Any
 
 import sdjwt
-from sdjwt import _inspect, _inspect_page, _inspect_text
 from sdjwt._detail import FILE_MAX
 from sdjwt._errors import _explanations
 from sdjwt._key_sets import is_oct
@@ -28,6 +27,9 @@ from sdjwt._program_files import Input, print_json, shown_name, write_page
 from sdjwt._program_keys import Signing, algorithms_of, make, public_keys, signing_key
 from sdjwt._program_policies import is_asked, moment, order_of, policy_of
 from sdjwt._program_words import NAME, parser
+
+if TYPE_CHECKING:
+    from sdjwt._inspect import Verdict
 
 # One byte more than a token may have, so that the library says that it is too long.
 _MOST = FILE_MAX + 1
@@ -128,19 +130,24 @@ def _verify(given: Input, said: argparse.Namespace) -> int:
     return 0
 
 
-def _judged(given: Input, said: argparse.Namespace, token: bytes) -> _inspect.Verdict | None:
+def _judged(given: Input, said: argparse.Namespace, token: bytes) -> Verdict | None:
     """What the library says of a token, if a policy is given."""
+    from sdjwt._inspect import Verdict
+
     if not is_asked(said):
         return None
     asked, policy = _policy(given, said)
     try:
         policy.verify(token, moment(said.now), most=_MOST)
     except sdjwt.Refused as refused:
-        return _inspect.Verdict(asked, refused)
-    return _inspect.Verdict(asked, None)
+        return Verdict(asked, refused)
+    return Verdict(asked, None)
 
 
 def _inspect_token(given: Input, said: argparse.Namespace) -> int:
+    # the other commands start faster without these
+    from sdjwt import _inspect, _inspect_page, _inspect_text
+
     token = given.token(said.token)
     inside = _inspect.look(sdjwt.split(token, most=_MOST), moment(said.now))
     verdict = _judged(given, said, token)

@@ -1,7 +1,4 @@
-"""Keys of the program sdjwt-keys: those that it reads, as PEM, JWK or key set, and those that it makes.
-
-The package cryptography reads and makes the asymmetric ones. It is loaded only if such a key is used.
-"""
+"""Keys of the program sdjwt-keys: those that it reads, as PEM, JWK or key set, and those that it makes."""
 from __future__ import annotations
 
 import base64
@@ -10,13 +7,15 @@ import secrets
 from typing import TYPE_CHECKING, Any, NamedTuple
 
 from sdjwt._errors import NoCryptography
-from sdjwt._key_sets import PRIVATE
-from sdjwt._keys import MACS, PUBLIC, RSA, is_shared, serves
+from sdjwt._key_forms import as_key_set, pem_of, public_jwk
+from sdjwt._key_forms import signing_key as read_signing_key
+from sdjwt._key_sets import is_oct
+from sdjwt._keys import MACS, PUBLIC, RSA, BadKey, is_shared, serves
 from sdjwt._program_faults import UNREADABLE, Fault, usage
 from sdjwt._program_files import Input, json_text, shown_name, write_new, write_pair
 
 if TYPE_CHECKING:
-    from sdjwt._signing import PrivateKey
+    from sdjwt._types import PrivateKey
 
 ALGORITHMS = (*PUBLIC, *MACS)
 FORMS = ("pem", "jwk")
@@ -36,42 +35,35 @@ def _unreadable(name: str, said: str) -> Fault:
     return Fault(UNREADABLE, f"unreadable {shown_name(name)}", f"{shown_name(name)} is no key that can be used here: {said}.")
 
 
-def _object_of(name: str, content: bytes) -> Jwk:
-    """The JSON object of a file with keys."""
+def _read(given: Input, name: str) -> bytes | Jwk:
+    """The content of a file with keys: a PEM, or a JSON object."""
+    content = given.content(name)
+    if pem_of(content) is not None:
+        return content
     try:
         read = json.loads(content.decode())
     except (ValueError, RecursionError):
         read = None
     if not isinstance(read, dict):
-        raise _unreadable(name, "it is neither PEM, nor a JWK, nor a key set (a JSON object with a list \"keys\")")
+        raise _unreadable(name, 'it is neither PEM, nor a JWK, nor a key set (a JSON object with a list "keys")')
     return read
 
 
-def _is_pem(content: bytes) -> bool:
-    return content.lstrip().startswith(b"-----BEGIN ")
-
-
-def public_keys(given: Input, names: list[str]) -> list[Jwk]:
-    """The keys of files that check signatures, as JWKs. Of a private key it is the public half."""
-    found: list[Jwk] = []
+def public_keys(given: Input, names: list[str]) -> list[Any]:
+    """The keys of files that check signatures, as JWKs."""
+    found: list[Any] = []
     for name in names:
-        content = given.content(name)
-        if _is_pem(content):
-            found.append(_from_pem(name, content))
-            continue
-        read = _object_of(name, content)
-        listed = read["keys"] if isinstance(read.get("keys"), list) else [read]
-        found += [_without_private(jwk) for jwk in listed]
+        try:
+            read: Any = as_key_set(_read(given, name), "")
+        except ValueError as fault:
+            raise _unreadable(name, str(fault).rpartition("can't be read: ")[2]) from None
+        if not isinstance(read.get("keys"), list):
+            raise _unreadable(name, 'it has neither "kty", as a JWK, nor a list "keys", as a key set')
+        found += read["keys"]
     return found
 
 
-def _without_private(jwk: Any) -> Any:
-    if not isinstance(jwk, dict) or jwk.get("kty") == "oct":
-        return jwk
-    return {member: value for member, value in jwk.items() if member not in (*PRIVATE, "key_ops")}
-
-
-def algorithms_of(jwks: list[Jwk]) -> list[str]:
+def algorithms_of(jwks: list[Any]) -> list[str]:
     """The algorithms that keys serve."""
     served = {name for jwk in jwks if isinstance(jwk, dict) for name in serves(jwk)}
     return [name for name in ALGORITHMS if name in served]
@@ -82,55 +74,36 @@ def holder_key(given: Input, name: str) -> Jwk:
     found = public_keys(given, [name])
     if len(found) != 1:
         raise _unreadable(name, f"it has {len(found)} keys, and a holder has one")
-    if found[0].get("kty") == "oct":
-        raise _unreadable(name, "it is a symmetric key, which everyone who sees the token could read")
-    return found[0]
+    try:
+        return dict(public_jwk(found[0]))
+    except (ValueError, TypeError) as fault:
+        raise _unreadable(name, str(fault).rpartition("sdjwt: ")[2]) from None
 
 
 def signing_key(given: Input, name: str) -> Signing:
     """The key in a file that signs."""
-    content = given.content(name)
-    if _is_pem(content):
-        return Signing(_private_from_pem(name, content), None, None, None)
-    jwk = _object_of(name, content)
-    alg, kid = (jwk.get(member) if isinstance(jwk.get(member), str) else None for member in ("alg", "kid"))
-    if jwk.get("kty") == "oct":
-        return Signing(None, jwk, alg, kid)
-    if "d" not in jwk:
-        raise _unreadable(name, "it is no private key, and only a private key signs")
-    return Signing(_private_from_jwk(name, jwk), None, alg, kid)
+    read = _read(given, name)
+    jwk = read if isinstance(read, dict) else {}
+    kid = jwk.get("kid") if isinstance(jwk.get("kid"), str) else None
+    if is_oct(jwk):
+        return Signing(None, jwk, jwk.get("alg") if isinstance(jwk.get("alg"), str) else None, kid)
+    if isinstance(read, dict) and not isinstance(read.get("kty"), str):
+        raise _unreadable(name, 'it has no "kty", as a JWK has it')
+    try:
+        private, alg = read_signing_key(read)
+    except BadKey as fault:
+        raise _unreadable(name, str(fault)) from None
+    found: Any = private
+    return Signing(found, None, alg, kid)
 
 
 def _of_cryptography() -> Any:
-    """The module with what the package cryptography does here."""
+    """The module that makes key pairs by the package cryptography."""
     try:
         from sdjwt import _program_pairs
     except ImportError as missing:
-        raise NoCryptography("sdjwt: public and private keys need the package cryptography: pip install cryptography") from missing
+        raise NoCryptography("sdjwt: key pairs need the package cryptography: pip install cryptography") from missing
     return _program_pairs
-
-
-def _from_pem(name: str, content: bytes) -> Jwk:
-    jwk: Jwk = _read(name, "public_from_pem", content)
-    return jwk
-
-
-def _private_from_pem(name: str, content: bytes) -> PrivateKey:
-    private: PrivateKey = _read(name, "private_from_pem", content)
-    return private
-
-
-def _private_from_jwk(name: str, jwk: Jwk) -> PrivateKey:
-    private: PrivateKey = _read(name, "private_from_jwk", jwk)
-    return private
-
-
-def _read(name: str, how: str, given: Any) -> Any:
-    pairs = _of_cryptography()
-    try:
-        return getattr(pairs, how)(given)
-    except pairs.NoKey as fault:
-        raise _unreadable(name, str(fault)) from None
 
 
 def make(alg: str, form: str | None, kid: str | None, name: str) -> dict[str, str]:

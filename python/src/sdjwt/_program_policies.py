@@ -73,7 +73,7 @@ def _binding_of(given: Input, said: argparse.Namespace, issuers: list[Any]) -> d
 def _algs_of_holders(issuers: list[Any], holders: list[Any]) -> list[str]:
     """The algorithms of holders if no option names them: all with public keys, whose keys the issuer puts into the token."""
     only_shared = holders and all(map(is_oct, issuers + holders))
-    return algorithms_of(holders) if only_shared else [*PUBLIC, *algorithms_of([jwk for jwk in holders if is_oct(jwk)])]
+    return algorithms_of(holders) if only_shared else [*PUBLIC, *algorithms_of(list(filter(is_oct, holders)))]
 
 
 def order_of(given: Input, content: bytes, holder: str | None, key: Signing | None) -> dict[str, Any] | bytes:
