@@ -79,9 +79,9 @@ class Policy:
     ...                "binding": {"aud": "https://door.example", "keys": holders, "max_age": 300}})
     >>> door.verify(shown, nonce="4711")
     {'cnf': {'kid': 'ada'}}
-    >>> door.verify(shown, nonce="4712")
+    >>> door.verify(shown, nonce="4712")  # doctest: +ELLIPSIS
     Traceback (most recent call last):
-    sdjwt.NonceDiffers: refused 35 nonceDiffers: The `nonce` of the key binding token is not the one of the policy.
+    sdjwt.NonceDiffers: refused 35 nonceDiffers: ...
     """
 
     __module__ = "sdjwt"
