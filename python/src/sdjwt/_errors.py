@@ -172,8 +172,7 @@ CLASSES: dict[int, type[Refused]] = {
 def refusal(line: str) -> Refused:
     """The exception for the line of a refusal."""
     number = re.match(r"refused (\d+) ", line)
-    kind = Refused if number is None else CLASSES.get(int(number[1]), Refused)
-    return kind(line)
+    return CLASSES.get(int(number[1]) if number is not None else 0, Refused)(line)
 
 
 class Unreadable(SdJwtError, ValueError):
