@@ -96,7 +96,7 @@ def test_a_log_shows_the_name_of_the_package(caplog):
         sdjwt.verify({"keys": KEYS}, "no token")
     except sdjwt.Refused:
         logging.getLogger("door").exception("refused")
-    assert "\nsdjwt.Refused: refused 2 form at 8: " in caplog.text
+    assert "\nsdjwt.Refused: refused 2 form at 2: " in caplog.text
     assert "sdjwt._errors." not in caplog.text
 
 

@@ -24,7 +24,8 @@ from __future__ import annotations
 import secrets
 from collections.abc import Iterable
 from dataclasses import dataclass
-from typing import Any, Literal, overload
+# get_type_hints looks here for the names in the annotations of classes that are shown as those of this module
+from typing import Any, Literal, Optional, overload  # noqa: F401
 
 from sdjwt import _library
 from sdjwt._answers import answered, object_of, without_end
