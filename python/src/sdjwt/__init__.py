@@ -107,8 +107,8 @@ def issue(
     Traceback (most recent call last):
     sdjwt.BadOrder: refused 55 noSuchPlace at 0: ...
 
-    The key of an order is shared. With `sign` the order has neither `key` nor `alg`, and `sign` is a private key of the package
-    cryptography, or a function that is given the bytes to sign and answers the signature. A key of P-256, P-384, P-521 or Ed25519
+    The key of an order is shared. With `sign` the order has neither `key` nor `alg`, and `sign` is a private key, as an object of the
+    package cryptography, a PEM or a JWK, or a function that is given the bytes to sign and returns the signature. A key of P-256, P-384, P-521 or Ed25519
     signs by ES256, ES384, ES512 or EdDSA. For one of RSA `alg` names the algorithm: PS256, PS384, PS512, RS256, RS384 or RS512.
     For a function `alg` names its algorithm, and the signature is the one that a JWS has: of ES256 the 64 bytes of r and s, and
     not the DER that many a vault answers. It is asked once, and not for an order that 51 to 60 refuse.
@@ -149,7 +149,7 @@ def present(
 ) -> str:
     """What a holder presents of a token, in its compact form.
 
-    The moment is in seconds since 1970, which a key binding token tells; it is now where none is given.
+    The moment, which a key binding token tells, is in seconds since 1970 or an aware datetime; it is now where none is given.
 
     >>> key = "dGhlIHRpY2tldCBvZmZpY2Uga2V5LCBub3QgeW91cnM"
     >>> token = issue({"payload": {"name": "Ada", "age": 7}, "hide": ["/name", "/age"], "key": key})

@@ -135,9 +135,9 @@ class Checking:
 
 def _keys_in(found: object) -> list[Key]:
     """The keys that a function returned, without those that are invalid."""
-    if found is None:
-        return []
     given = {"keys": as_key_set(found, "/keys")}
+    if given["keys"] is None or given["keys"] == []:
+        return []
     if not has_set(given):
         raise TypeError(f"sdjwt: keys returned a value of type {type(found).__name__}, and has to return keys or None")
     keys = []
