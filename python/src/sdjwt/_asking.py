@@ -80,7 +80,7 @@ class Functions(NamedTuple):
 def object_in(text: bytes, part: int) -> dict[str, Any]:
     """The object in a part of what was signed; an empty one if it is none."""
     try:
-        found = json.loads(decoded(text.split(b".")[part].decode()))
+        found = json.loads(decoded(text.split(b".")[part].decode()).decode())
     except (ValueError, LookupError, RecursionError):
         return {}
     return found if isinstance(found, dict) else {}
