@@ -140,5 +140,7 @@ def test_many_tokens():
 def test_an_audit_needs_the_shared_key():
     order = {"payload": {"a": 1}, "hide": ["/a"]}
     token = sdjwt.issue(order, sign=ISSUERS["ES256"].pair)
-    with pytest.raises(sdjwt.Unreadable, match='unreadable 1 missing key: .*"key" has to be one'):
+    with pytest.raises(sdjwt.Unreadable, match='unreadable 1 missing key: .*"key" has to be one; a token that is signed with a private key cannot be audited'):
         sdjwt.audit(order, token)
+    with pytest.raises(sdjwt.Unreadable, match="unreadable 1 wrong key: at /key"):
+        sdjwt.audit({**order, "key": "x"}, token)

@@ -291,7 +291,12 @@ def audit(order: Json, token: Json, *, most: int = MOST) -> None:
     """
     need_stack()
     ordered = file_bytes(order, "order")
-    answered(*_library.call("audit", ordered, token_bytes(token, most)), ("order", ordered))
+    try:
+        answered(*_library.call("audit", ordered, token_bytes(token, most)), ("order", ordered))
+    except Unreadable as fault:
+        if fault.reason != "missing key":
+            raise
+        raise Unreadable(fault.line, f"{fault.detail}; a token that is signed with a private key cannot be audited") from None
 
 
 @dataclass(frozen=True)
