@@ -15,7 +15,7 @@ from sdjwt._program_faults import UNREADABLE, Fault, usage
 from sdjwt._program_files import Input, json_text, shown_name, write_new, write_pair
 
 if TYPE_CHECKING:
-    from sdjwt._types import PrivateKey
+    from sdjwt._types import PrivateKeyObject as PrivateKey
 
 ALGORITHMS = (*PUBLIC, *MACS)
 FORMS = ("pem", "jwk")
