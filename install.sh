@@ -52,6 +52,7 @@ files() {
     put 644 docs/sdjwt-explain.1 share/man/man1/sdjwt-explain.1
     put 644 docs/REFUSALS.md share/sdjwt/REFUSALS.md
     put 644 python/src/sdjwt/_detail.py share/sdjwt/_detail.py
+    put 644 python/src/sdjwt/_lines.py share/sdjwt/_lines.py
     for licence in LICENSE-MIT LICENSE-APACHE; do
         [ ! -f "$licence" ] || put 644 "$licence" "share/doc/sdjwt/$licence"
     done

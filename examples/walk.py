@@ -1,11 +1,12 @@
 #!/usr/bin/env python3
-"""Follows the walk of README.md: runs its commands, shows what they print, and compares that with what README says.
+"""Follows a walk: runs its commands, shows what they print, and compares that with what the page says.
 
-    python3 examples/walk.py PROGRAM      PROGRAM is sdjwt, as demo.sh or look.sh builds it
+    python3 examples/walk.py PROGRAM      PROGRAM is sdjwt (as demo.sh or look.sh builds it) or sdjwt-keys
 
-Commands and outputs are taken out of README.md, from its section "A walk" on: a line behind `$ ` in a fenced block is a
-command, and the lines below it are what it prints. An indented line is a command that prints nothing. All run in a copy
-of examples/walk, which README's own words make. `..` in an output stands for the rest of a base64 text.
+The walk of sdjwt is docs/WALK.md, and that of sdjwt-keys is the section "A walk" of README.md. A line after `$ ` in a
+fenced block is a command, which goes on after a backslash at its end, and the lines below it are its output. The
+commands run in an empty folder, or in a copy of examples/walk if the page says how to make one. In an output `..`
+stands for the rest of a base64 string, and a line `..` for any lines.
 """
 import os
 import re
@@ -16,6 +17,17 @@ import tempfile
 from pathlib import Path
 
 TOP = Path(__file__).resolve().parent.parent
+# Of each program the page with its walk, and the heading of the walk.
+WALKS = {"sdjwt": ("docs/WALK.md", "# "), "sdjwt-keys": ("README.md", "## A walk\n")}
+
+
+def walk_of(name):
+    """The walk of a program."""
+    page, heading = WALKS[name]
+    text = (TOP / page).read_text(encoding="utf-8")
+    walk = text[text.index(heading):]
+    level = heading.split(" ")[0]
+    return re.split(rf"^{level} ", walk, maxsplit=2, flags=re.M)[1]
 
 
 def steps(text):
@@ -26,16 +38,18 @@ def steps(text):
             fenced = not fenced
         elif fenced and line.startswith("$ "):
             found.append((line[2:], []))
+        elif fenced and found[-1][0].endswith("\\") and not found[-1][1]:
+            found[-1] = (found[-1][0] + "\n" + line, [])
         elif fenced:
             found[-1][1].append(line)
-        elif line.startswith("    "):
-            found.append((line.strip(), []))
     return found
 
 
-def agrees(said, line):
-    """Whether a line that was printed is the one that README says."""
-    return re.fullmatch(re.escape(said).replace(r"\.\.", r"[A-Za-z0-9_.-]+"), line) is not None
+def agrees(said, lines):
+    """Whether the lines that were printed are those that the page says."""
+    def form(line):
+        return r"(?:.*\n)*" if line == ".." else re.escape(line).replace(r"\.\.", r"[A-Za-z0-9_.-]+") + r"\n"
+    return re.fullmatch("".join(map(form, said)), "".join(f"{line}\n" for line in lines)) is not None
 
 
 def run(words, folder, home):
@@ -46,22 +60,20 @@ def run(words, folder, home):
                           timeout=120)
 
 
-def follow(program, walk, home):
+def follow(name, program, walk, home):
     """How many commands there are, and how many of them print something else."""
     (home / "bin").mkdir()
-    (home / "bin" / "sdjwt").symlink_to(program)
-    copy = re.search(r"`(cp -r examples/walk [^`]*)`", walk)[1]
-    folder = run(f"{copy} && pwd", TOP, home).stdout.strip()
+    (home / "bin" / name).symlink_to(program)
+    copy = re.search(r"`(cp -r examples/walk [^`]*)`", walk)
+    folder = run(f"{copy[1] if copy else 'mkdir ~/walk; cd ~/walk'} && pwd", TOP, home).stdout.strip()
     wrong, all_steps = 0, steps(walk)
     for command, said in all_steps:
         came = run(command, folder, home)
-        lines = came.stdout.splitlines()
         print(f"$ {command}\n{came.stdout}", end="", flush=True)
         due = 1 if any(line.startswith("refused ") for line in said) else 0
-        same = len(lines) == len(said) and all(map(agrees, said, lines))
-        if not same or came.returncode != due:
+        if not agrees(said, came.stdout.splitlines()) or came.returncode != due:
             wrong += 1
-            told = f"walk.py: status {came.returncode}, and README.md says {due} and"
+            told = f"walk.py: status {came.returncode}, and the page says {due} and"
             print("\n".join([told, *said]), file=sys.stderr)
     return len(all_steps), wrong
 
@@ -72,11 +84,10 @@ def main():
     program = shutil.which(sys.argv[1])
     if program is None:
         sys.exit(f"walk.py: there is no program {sys.argv[1]}")
-    readme = (TOP / "README.md").read_text(encoding="utf-8")
-    walk = readme[readme.index("\n## A walk\n"):]
+    name = "sdjwt-keys" if Path(program).name == "sdjwt-keys" else "sdjwt"
     with tempfile.TemporaryDirectory() as home:
-        count, wrong = follow(Path(program).resolve(), walk, Path(home))
-    print(f"\n{count} commands of README.md, {wrong} print something else")
+        count, wrong = follow(name, Path(program).absolute(), walk_of(name), Path(home))
+    print(f"\n{count} commands of {WALKS[name][0]}, {wrong} print something else")
     return 1 if wrong or count == 0 else 0
 
 

@@ -3,6 +3,7 @@
 
     sdjwt-explain 17                                   the entry of a number
     sdjwt-explain wrong binding                        the entry of a name or a reason
+    sdjwt-explain usage                                the commands of sdjwt and sdjwt_tools
     sdjwt-explain refused 73                           the entry of the front of a line
     sdjwt-explain refused 73 consentRefused at 0       the entry of a whole line
     sdjwt-explain unreadable 1 notJson policy.json     the same, and where this file is wrong
@@ -27,18 +28,19 @@ INSTALLED = HERE.parent / "share/sdjwt"
 IS_INSTALLED = INSTALLED.is_dir() and HERE.name == "bin"
 PAGE = INSTALLED / "REFUSALS.md" if IS_INSTALLED else HERE.parent / "docs/REFUSALS.md"
 CASES = HERE.parent / "examples/refusals/cases.txt"
-PARTS = {"Means": "explanation", "Likely cause": "cause", "What to do": "remedy"}
-# An entry of the page, and what stands between its parts.
-ENTRY = r"^- \*\*([\w ]+)\*\*: (.*(?:\n  .*)*)$|^\| `([A-Za-z_ ]+)` \| ([^|]+) \| ([^|]+) \| ([^|]+) \|$"
-MARKS = r" \*(?:Cause|Remedy):\* "
-# The statuses of the lines that have no number, and how a line is told from others.
-LINES = ((1, r"refused (\d+) ([A-Za-z]+)(?: at (.+))?"), (6, r"unreadable ([12]) ([A-Za-z]+(?: [a-z_]+)?)"),
-         (3, r"(unread) (\d+|clock|source)"), (2, r"(usage)"), (4, r"(unwritten)"), (5, r"(memory)"), (8, r"(notAsked)"))
+# An entry of the page: a heading with the lines below it, or a row of a table. Then the marks between its parts, and what
+# is dropped from them: the mark of an element of a list, and the target of a link.
+ENTRY = r"^### ([\w ]+?)(?: <a .*)?\n((?:(?!#).*\n)*)|^\| `([A-Za-z_ ]+)` \| ([^|]+) \| ([^|]+) \| ([^|]+) \|$"
+MARKS = r"\n- \*(?:Cause|Remedy):\* "
+DROPPED = r"^ +- |\[([^]]*)\]\([^)]*\)"
+# A row of the table of the commands: its words, and what is printed.
+COMMAND = r"^\| `(sdjwt\w* [\w .]+)` \| ([^|\n]+) \|$"
 
 # nothing is written beside what was installed
 sys.dont_write_bytecode = True
 sys.path.insert(0, str(INSTALLED if IS_INSTALLED else HERE / "src/sdjwt"))
 import _detail  # noqa: E402
+from _lines import PARTS, found, line_of, object_of  # noqa: E402
 
 
 class Unread(Exception):
@@ -67,43 +69,18 @@ def lines_of(stream):
 
 def sections(page):
     """What each entry says, each part in one line, by what it explains: `refused 10 badSignature`, `unreadable notJson` or
-    `usage`. An entry is an element of a list, or a row of the table of the reasons why a file is unreadable."""
+    `usage`. An entry is a heading with the lines below it, or a row of the table of the reasons why a file is unreadable."""
     found = {}
     for heading, body, reason, *cells in re.findall(ENTRY, page, re.M):
-        texts = [f"{cell[0].upper()}{cell[1:]}." for cell in cells] if reason else re.split(MARKS, " ".join(body.split()))
-        found[heading or "unreadable " + reason] = dict(zip(PARTS.values(), texts))
+        lines = re.sub(DROPPED, r"\1", body, flags=re.M)
+        parts = [f"{cell[0].upper()}{cell[1:]}." for cell in cells] if reason else re.split(MARKS, lines)
+        found[heading or "unreadable " + reason] = {of: " ".join(part.split()) for of, part in zip(PARTS.values(), parts)}
     return found
 
 
-def heading_of(line):
-    """The status of a line, the heading of its entry, and its place. None where it is no line of a refusal."""
-    for status, form in LINES:
-        words = re.fullmatch(form, line)
-        if words and status == 1:
-            return status, f"refused {words[1]} {words[2]}", words[3]
-        if words and status == 6:
-            return status, f"unreadable {words[2]}", words[1]
-        if words:
-            return status, words[1], words[2] if status == 3 else None
-    return None
-
-
-def place_of(word):
-    """The place that a line tells, which is a JSON text or stands as it is."""
-    try:
-        return json.loads(word) if word and word.startswith('"') else word
-    except ValueError:
-        return word
-
-
 def as_json(line, entries):
-    """The status and the object of a line of a refusal."""
-    status, heading, place = heading_of(line)
-    number, name = heading.split(" ")[1:] if status == 1 else (None, re.sub("^unreadable ", "", heading))
-    told = {"status": status, "number": number and int(number), "name": name, "place": place_of(place)}
-    said = entries.get(heading, {})
-    told.update((part, said.get(part, "")) for part in PARTS.values())
-    return status, json.dumps(told, ensure_ascii=False, separators=(",", ":"))
+    """The status and the JSON text of what a line says."""
+    return line.status, json.dumps(object_of(line, entries), ensure_ascii=False, separators=(",", ":"))
 
 
 def pipe(entries):
@@ -112,35 +89,20 @@ def pipe(entries):
     for stream in (sys.stdin, sys.stdout):
         stream.reconfigure(errors="surrogateescape")
     for line in lines_of(sys.stdin):
-        if heading_of(line.rstrip("\n")):
-            status, line = as_json(line.rstrip("\n"), entries)
+        refusal = line_of(line.rstrip("\n"))
+        if refusal:
+            status, line = as_json(refusal, entries)
             line += "\n"
         sys.stdout.write(line)
     return status
-
-
-def found(wanted, entries):
-    """The headings that a number, a name, a reason or a line names."""
-    line = heading_of(wanted)
-    if line:
-        return [heading for heading in entries if heading == line[1]]
-    return [heading for heading in entries if wanted in names_of(heading)]
-
-
-def names_of(heading):
-    """All by which an entry may be asked for: `refused 10 badSignature` also by 10, by its name, by both, and by
-    `refused 10`."""
-    words = heading.split(" ")
-    if words[0] == "refused":
-        return {heading, words[1], words[2], f"{words[1]} {words[2]}", f"{words[0]} {words[1]}"}
-    return {heading, " ".join(words[1:]) if words[0] == "unreadable" else heading}
 
 
 def case_of(heading):
     """A command of examples/refusals that gives such a line, and the line."""
     for row in CASES.read_text(encoding="utf-8").splitlines() if CASES.is_file() else ():
         case = re.fullmatch(r"([^#].*) = [1-6] (.*)", row)
-        if case and heading_of(case[2]) and heading_of(case[2])[1] == heading:
+        line = line_of(case[2]) if case else None
+        if line and line.heading == heading:
             return case
     return None
 
@@ -152,6 +114,13 @@ def more_of(heading, name):
         return f"{name}: of a file more is said where the line begins with `unreadable`"
     said = _detail.detail(reason, content_of(name, _detail.FILE_MAX + 1))
     return f"In {name}: {said or 'no such fault is found. Is it another file, or was it changed since?'}"
+
+
+def commands(page):
+    """The commands of the programs, each with what it prints."""
+    rows = [(words, said.replace("`", "")) for words, said in re.findall(COMMAND, page, re.M)]
+    width = max(len(words) for words, _ in rows)
+    return "\n".join(f"  {words:{width}}  {said}" for words, said in rows)
 
 
 def filled(text):
@@ -169,6 +138,8 @@ def tell(wanted, name, entries):
         # read before anything is printed, since it may fail
         more = more_of(heading, name) if name is not None else None
         print("\n" * (number > 0) + heading + "\n\n" + plain(entries[heading]))
+        if heading == "usage":
+            print("\n" + commands(content_of(PAGE).decode()))
         if more is not None:
             print("\n" + filled(more))
         elif case_of(heading):

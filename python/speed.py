@@ -95,21 +95,30 @@ def peers(jwt):
         print("skipped: jwcrypto")
 
 
-class Public:
-    """The same token signed with ES256, and the parts of its verification; and a policy for both kinds of keys."""
+class Pair:
+    """A key pair of P-256: how it signs, and its public key as a JWK."""
 
-    def __init__(self, shown):
+    def __init__(self):
         from cryptography.hazmat.primitives import hashes
         from cryptography.hazmat.primitives.asymmetric import ec
         from cryptography.hazmat.primitives.asymmetric.utils import decode_dss_signature
         pair = ec.generate_private_key(ec.SECP256R1())
         numbers = pair.public_key().public_numbers()
-        point = {name: encoded(value.to_bytes(32, "big")) for name, value in (("x", numbers.x), ("y", numbers.y))}
-        jwk = {"kty": "EC", "crv": "P-256", "kid": "one", **point}
+        self.jwk = {"kty": "EC", "crv": "P-256", **{name: encoded(getattr(numbers, name).to_bytes(32, "big")) for name in "xy"}}
+        self.private = pair
+        self.sign = lambda text: b"".join(
+            number.to_bytes(32, "big") for number in decode_dss_signature(pair.sign(text, ec.ECDSA(hashes.SHA256()))))
+
+
+class Public:
+    """The same token signed with ES256, and the parts of its verification; and a policy for both kinds of keys."""
+
+    def __init__(self, shown):
+        pair = Pair()
+        jwk = {**pair.jwk, "kid": "one"}
         jwt, behind = shown.split("~", 1)
         text = f"{encoded(b'{%s}' % HEADER)}.{jwt.split('.')[1]}"
-        pair_of = decode_dss_signature(pair.sign(text.encode(), ec.ECDSA(hashes.SHA256())))
-        signature = b"".join(number.to_bytes(32, "big") for number in pair_of)
+        signature = pair.sign(text.encode())
         self.token = f"{text}.{encoded(signature)}~{behind}".encode()
         self.policy = sdjwt.Policy({**POLICY, "keys": {"keys": [jwk]}, "algs": ["ES256"]})
         check = self.policy._asking._checking.issuers[0].checks["ES256"]
@@ -117,6 +126,32 @@ class Public:
         self.mixed = sdjwt.Policy({**POLICY, "keys": {"keys": [jwk, *POLICY["keys"]["keys"]]}, "algs": ["ES256", "HS256"]})
         # the same, where the answer costs nothing
         self.unchecked = sdjwt.Policy({**POLICY, "keys": {"keys": []}, "algs": ["ES256"]}, check=lambda question: True)
+
+
+class Bound:
+    """A presentation with a key binding token, and 21 keys of issuers: the nonce is the policy's, or each call gives it."""
+
+    def __init__(self):
+        issuers, holder = [Pair() for _ in range(21)], Pair()
+        keys = {"keys": [{**issuer.jwk, "kid": str(number)} for number, issuer in enumerate(issuers)]}
+        token = sdjwt.issue({"payload": {**ORDER["payload"], "cnf": {"jwk": holder.jwk}}, "hide": ORDER["hide"], "kid": "20"},
+                            sign=issuers[20].private)
+        order = {"keys": keys, "algs": ["ES256"], "want": ORDER["hide"], "binding": {"aud": "door", "nonce": "4711"}}
+        self.token = sdjwt.present(order, token, sign=holder.private).encode()
+        binding = {"aud": "door", "keys": {"keys": []}, "max_age": 2**31}
+        self.kept = sdjwt.Policy({"keys": keys, "algs": ["ES256"], "binding": {**binding, "nonce": "4711"}})
+        self.open = sdjwt.Policy({"keys": keys, "algs": ["ES256"], "binding": binding})
+
+
+def tell_bound():
+    """What a nonce for each call costs."""
+    bound = Bound()
+    # by turns, since the machine may be faster at one time than at another
+    times = [(time_of(lambda: bound.kept.verify(bound.token), 1), time_of(lambda: bound.open.verify(bound.token, nonce="4711"), 1))
+             for _ in range(9)]
+    kept, given = map(min, zip(*times))
+    print(f"Policy.verify of ES256 with key binding, 21 keys: {kept:.0f} us of the processor; with a nonce for each call "
+          f"{given:.0f} us, {given / kept:.2f} times as much")
 
 
 def tell_public(shown, seconds):
@@ -130,6 +165,7 @@ def tell_public(shown, seconds):
     tell("its signature alone, by cryptography", public.check, seconds)
     tell("Policy.verify of ES256, but for the signature", lambda: public.unchecked.verify(public.token), seconds)
     tell("Policy.verify of HS256 beside a public key", lambda: public.mixed.verify(shown.encode()), seconds)
+    tell_bound()
 
 
 def main():

@@ -137,7 +137,7 @@ holds 'sdjwt.pc has the version' version_in_pc
 # The first lines of README.md and of the archive's tell a file that was changed on the way.
 sums_by_readme() {
     mkdir "$made/changed" && cp "$out"/* "$made/changed/" &&
-        line=$(sed -n 's/^    \(sha256sum .*\)/\1/p' "$1") && [ -n "$line" ] &&
+        line=$(sed -n 's/^ *\(sha256sum .*\)/\1/p' "$1") && [ -n "$line" ] &&
         (cd "$made/changed" && sh -c "$line") && rm "$made"/changed/*.whl && (cd "$made/changed" && sh -c "$line") &&
         echo >>"$(echo "$made"/changed/sdjwt-*.tar.gz)" && ! (cd "$made/changed" && sh -c "$line") &&
         rm -r "$made/changed" && echo "$line"
@@ -214,7 +214,7 @@ programs() {
             [ "$status $(cat /srv/line)" = "2 usage" ]
         done
         command -v sdjwt'
-    holds "$1: the walk of README.md" inside "python3 examples/walk.py $2/sdjwt"
+    holds "$1: the walk of docs/WALK.md" inside "python3 examples/walk.py $2/sdjwt"
     holds "$1: the vectors" inside "python3 vectors/run.py $2/sdjwt --at '$at'"
     holds "$1: the audit" inside "SDJWT_TOOLS=$2/sdjwt_tools sh examples/audit.sh"
     holds "$1: the wallet" inside "SDJWT=$2/sdjwt SDJWT_TOOLS=$2/sdjwt_tools sh examples/wallet.sh"
@@ -261,11 +261,20 @@ assert importlib.metadata.version(\"sdjwt\") == sdjwt.__version__
 tried = doctest.testmod(sdjwt)
 print(tried, sdjwt.__version__)
 assert tried.attempted and not tried.failed'"
+    # without the package cryptography, so with a symmetric key
+    holds "$1: sdjwt-keys" inside "rm -rf /srv/keys; mkdir /srv/keys; cd /srv/keys
+        $3/bin/sdjwt-keys --version | grep '^sdjwt-keys $whole: '
+        $3/bin/sdjwt-keys keygen office --alg HS256 >/dev/null
+        echo '{\"payload\": {\"seat\": \"B12\"}, \"hide\": [\"/seat\"]}' >order.json
+        $3/bin/sdjwt-keys issue order.json --key office.shared.jwk >issued
+        $3/bin/sdjwt-keys inspect issued --html page.html | grep 'opened by disclosure 0'
+        $3/bin/sdjwt-keys verify issued --key office.shared.jwk --require seat
+        ls $3/share/man/man1/sdjwt-keys.1* $3/share/bash-completion/completions/sdjwt-keys"
 }
 
 if [ "$bare_made" = yes ]; then
     mkdir "$bare/srv/repository" "$bare/srv/files"
-    git -C "$top" archive HEAD README.md examples vectors |
+    git -C "$top" archive HEAD README.md docs/WALK.md examples vectors |
         tar -x -f - -C "$bare/srv/repository"
     cp "$out"/* "$bare/srv/files/"
     # shellcheck disable=SC2016 # the marks of a text
@@ -277,7 +286,7 @@ if [ "$bare_made" = yes ]; then
     holds 'packages: installed' inside 'dpkg -i /srv/files/*.deb'
     programs packages /usr/bin /usr vendor-completions
     c_library packages
-    python_package packages /usr/bin/python3
+    python_package packages /usr/bin/python3 /usr
     nothing_left() {
         inside 'dpkg -r python3-sdjwt libsdjwt-dev libsdjwt1 sdjwt' &&
             inside 'find /usr /etc | sort' >"$made/after" &&
@@ -288,29 +297,41 @@ if [ "$bare_made" = yes ]; then
 
     holds 'wheel: installed' inside 'python3 -m venv /srv/venv
         /srv/venv/bin/pip install --no-index --disable-pip-version-check /srv/files/*.whl'
-    python_package wheel /srv/venv/bin/python
+    python_package wheel /srv/venv/bin/python /srv/venv
 
-    # The first lines of the repository's README.md: three for the archive, one for the package and one for the wheel.
-    awk '/^## / { on = $0 == "## Install"; next } on && sub(/^    (sudo )?/, "")' "$top/README.md" |
-        sed "s/$version/$whole/g" >"$made/lines"
-    [ "$(wc -l <"$made/lines")" -eq 5 ] || failed 'README.md has not five lines under "Install"'
-    head -n 3 "$made/lines" >"$bare/srv/unpack"
-    tail -n 2 "$made/lines" >"$bare/srv/install"
+    # The blocks of the repository's README.md under "Install". What needs an index of packages is left out: the line of
+    # cryptography. A line that ends in another folder makes it below /root, which is removed.
+    block() {
+        awk -v heading="### $1" '/^##/ { on = $0 == heading } /^```/ { code = !code; next }
+            on && code && !/cryptography/ { sub(/^sudo /, ""); print }' "$top/README.md" | sed "s/$version/$whole/g"
+    }
+    block Archive >"$bare/srv/archive"
+    block 'Debian packages' | sed 's/apt install/dpkg -i/' >"$bare/srv/debian"
+    block 'Python wheel' >"$bare/srv/wheel"
+    for name in archive debian wheel; do
+        [ "$(wc -l <"$bare/srv/$name")" -ge 2 ] || failed "README.md has no commands for $name under \"Install\""
+    done
     # shellcheck disable=SC2016 # the words of the other shell
     holds 'README.md: from the archive' inside 'cd /srv/files
-        . /srv/unpack
+        . /srv/archive
+        cat order.json >/dev/null
         cd /srv/repository
         python3 examples/walk.py "$(command -v sdjwt)" >/dev/null
-        command -v sdjwt'
+        command -v sdjwt
+        rm -r ~/walk'
     # shellcheck disable=SC2016
-    holds 'README.md: the package and the wheel' inside 'python3 -m venv /srv/readme
-        export PATH=/srv/readme/bin:$PATH PIP_NO_INDEX=1 PIP_DISABLE_PIP_VERSION_CHECK=1
+    holds 'README.md: the packages' inside 'cd /srv/files
+        . /srv/debian
+        dpkg -V sdjwt libsdjwt1 python3-sdjwt
+        sdjwt-keys --version
+        rm -r ~/walk
+        dpkg -r python3-sdjwt libsdjwt1 sdjwt >/dev/null'
+    # shellcheck disable=SC2016
+    holds 'README.md: the wheel' inside 'export PIP_NO_INDEX=1 PIP_DISABLE_PIP_VERSION_CHECK=1
         cd /srv/files
-        . /srv/install
-        dpkg -V sdjwt
-        python3 -c "import sdjwt; print(sdjwt.__version__)"
-        dpkg -r sdjwt >/dev/null
-        rm -r /srv/files/sdjwt-*-linux-x86_64'
+        . /srv/wheel
+        sdjwt-keys --version
+        rm -r ~/walk ~/sdjwt /srv/files/sdjwt-*-linux-x86_64'
 
     # The archive, by the words of its README.
     readme=$(echo "$made"/archive/*/README.md)

@@ -1,5 +1,6 @@
 #!/usr/bin/env python3
-"""Looks at a wheel: whether its tag is true of the library in it, and whether its RECORD says what it holds.
+"""Looks at a wheel: whether its tag is true of the library in it, whether it has the modules of its programs, and
+whether its RECORD says what it holds.
 
     python3 release/wheel.py WHEEL
 """
@@ -59,6 +60,9 @@ def main():
     said = set(re.findall(r"^Tag: (.*)$", files[f"{info}/WHEEL"].decode(), re.M))
     if said != tags:
         fail(f"WHEEL says {said}, and the name says {tags}")
+    modules = re.findall(r"^[\w-]+ = ([\w.]+):\w+$", files[f"{info}/entry_points.txt"].decode(), re.M)
+    if not modules or any(f"{module.replace('.', '/')}.py" not in files for module in modules):
+        fail(f"entry_points.txt names {modules}, and not all are in the wheel")
     needed, versions = needs_of(files["sdjwt/libsdjwt.so"])
     if not needed <= SYSTEM:
         fail(f"the library needs {needed - SYSTEM}")

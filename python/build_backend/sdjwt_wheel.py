@@ -28,6 +28,13 @@ RECORDED = "sha256 c/out/lib/libsdjwt.so.1"
 LICENCES = ("LICENSE-APACHE", "LICENSE-MIT")
 # The notices of what is linked into the library.
 NOTICES = "THIRD-PARTY.txt"
+# The manual page and the completions of the program, with where each is found below the folder of an installation.
+SHARED = {
+    "docs/sdjwt-keys.1": "share/man/man1/sdjwt-keys.1",
+    "completions/sdjwt-keys.bash": "share/bash-completion/completions/sdjwt-keys",
+    "completions/_sdjwt-keys": "share/zsh/site-functions/_sdjwt-keys",
+    "completions/sdjwt-keys.fish": "share/fish/vendor_completions.d/sdjwt-keys.fish",
+}
 TAG = "py3-none"
 # the beginning of 2020
 FIRST_DATE = 1_577_836_800
@@ -47,6 +54,13 @@ def _extras():
     return "".join(lines)
 
 
+def _scripts():
+    """The programs, as entry points."""
+    text = (HERE / "pyproject.toml").read_text(encoding="utf-8").partition("[project.scripts]\n")[2].partition("\n[")[0]
+    named = re.findall(r'^([\w-]+) = "(.*)"$', text, re.M)
+    return "".join(["[console_scripts]\n", *(f"{name} = {function}\n" for name, function in named)])
+
+
 def _library():
     path = Path(os.environ.get("SDJWT_LIBRARY") or HERE.parent / "c/out/lib" / LIBRARY)
     if not path.is_file():
@@ -54,8 +68,8 @@ def _library():
     return path.read_bytes()
 
 
-def _licence(name):
-    """The file of a licence: at the top of the repository, or beside pyproject.toml in a source distribution."""
+def _of_top(name):
+    """A file at the top of the repository, or beside pyproject.toml in a source distribution."""
     return next(path for path in (HERE / name, HERE.parent / name) if path.is_file())
 
 
@@ -118,8 +132,11 @@ def _files():
     ).encode() + (HERE / "README.md").read_bytes()
     found[f"{info}/WHEEL"] = b"Wheel-Version: 1.0\nGenerator: sdjwt_wheel\nRoot-Is-Purelib: false\n"
     found[f"{info}/WHEEL"] += "".join(f"Tag: {TAG}-{name}\n" for name in _platforms().split(".")).encode()
+    found[f"{info}/entry_points.txt"] = _scripts().encode()
+    for name, target in SHARED.items():
+        found[f"sdjwt-{_version()}.data/data/{target}"] = _of_top(name).read_bytes()
     for name in LICENCES:
-        found[f"{info}/licenses/{name}"] = _licence(name).read_bytes()
+        found[f"{info}/licenses/{name}"] = _of_top(name).read_bytes()
     found[f"{info}/licenses/{NOTICES}"] = _notices()
     return info, found
 
@@ -158,8 +175,8 @@ def build_sdist(sdist_directory, config_settings=None):
     with tarfile.open(Path(sdist_directory) / f"{name}.tar.gz", "w:gz") as archive:
         for path in ("pyproject.toml", "README.md", "build_backend", "src", "tests"):
             archive.add(HERE / path, f"{name}/{path}", filter=lambda i: None if "__pycache__" in i.name else i)
-        for licence in LICENCES:
-            archive.add(_licence(licence), f"{name}/{licence}")
+        for other in (*LICENCES, *SHARED):
+            archive.add(_of_top(other), f"{name}/{other}")
         notices = tarfile.TarInfo(f"{name}/{NOTICES}")
         notices.size = len(_notices())
         archive.addfile(notices, io.BytesIO(_notices()))

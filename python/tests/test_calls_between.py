@@ -15,14 +15,14 @@ from pathlib import Path
 import pytest
 
 import sdjwt
-from sdjwt import _library, _stack
+from sdjwt import _handles, _library, _policy, _stack
 
 KEY = "dGhlIHRpY2tldCBvZmZpY2Uga2V5LCBub3QgeW91cnM"
 KEYS = {"keys": [{"kty": "oct", "k": KEY}]}
 NOW = 1_800_000_000
 PACKAGE = str(Path(sdjwt.__file__).parent)
 # the modules that keep something between two calls
-KEEPERS = (sdjwt.__file__, _library.__file__, _stack.__file__)
+KEEPERS = (sdjwt.__file__, _policy.__file__, _handles.__file__, _library.__file__, _stack.__file__)
 each = pytest.mark.parametrize
 
 

@@ -98,6 +98,9 @@ SAID = [
     ("policy", '{"keys": ' + "9" * 400 + "}", "notJson", "too great for a float"),
     ("policy", '{"keys": ' + "[" * 127, "notJson", "line 1, column 136: this is nested deeper than 127 levels"),
     ("policy", "\ufeff{}", "notJson", "line 1, column 1: the file begins with a byte order mark"),
+    ("policy", "eyJh.eyJi.c2ln~", "notJson", "line 1, column 1: this is a token; the policy, the order or the query comes first"),
+    ("order", "\n1A.eyJi.c2ln\n", "notJson", "line 2, column 2: this is a token; the policy, the order or the query comes first"),
+    ("policy", "1.5.2 of a file", "notJson", "more stands behind the end"),
     ("policy", b'{\n"\xff"}', "notJson", "line 2, column 2: byte 3 of the file, counted from 0, is not UTF-8"),
     ("policy", '{"a": 1}'.encode("utf-16"), "notJson", "UTF-16"),
     ("order", '{"payload":\n {"a/b": [0, 12.50]}}', "notWhole", "line 2, column 14: the number at /payload/a~1b/1 has a fraction"),
@@ -115,7 +118,9 @@ SAID = [
     ("policy", '{"keys":{"keys":[{"kty":"RSA"},{"kty":"oct"}]}}', "wrong keys", 'at /keys/keys/1: it has no "k"'),
     ("policy", '{"keys":{"keys":[{"kty":"oct","k":"%s"},{"kty":"oct","k":"AAAA"}]}}' % KEY, "wrong keys",
      "at /keys/keys/1/k: it codes 3 bytes, of the at least 32 that a key has"),
-    ("policy", '{"keys":{"keys":[{"kty":"oct","k":"AAAA"},{"kty":"oct","k":"A"}]}}', "wrong keys", "at /keys/keys/1/k: it has 1 letters"),
+    ("policy", '{"keys":{"keys":[{"kty":"oct","k":"AAAA"},{"kty":"oct","k":"A"}]}}', "wrong keys", "at /keys/keys/1/k: it is too short: 1 letters"),
+    ("policy", '{"keys":{"keys":[{"kty":"oct","k":"secret"}]}}', "wrong keys", "at /keys/keys/0/k: it is too short: 6 letters, and a key has at least 43"),
+    ("order", '{"payload":{},"key":"my password!=="}', "wrong key", "at /key: it is too short: 12 letters, and a key has at least 43"),
     ("policy", '{"keys":{"keys":[{"kty":"oct","k":"%s="}]}}' % KEY, "wrong keys", "at /keys/keys/0/k: it has = at its end"),
     ("policy", '{"keys":{"keys":[{"kty":"oct","k":"+%s"}]}}' % KEY, "wrong keys", "letter 1 is + or /: this is base64"),
     ("policy", '{"keys":{"keys":[{"kty":"oct","k":"%s N"}]}}' % KEY[:-2], "wrong keys", "letter 42 is none of A-Z a-z 0-9 - _"),
@@ -174,6 +179,6 @@ def test_a_name_drives_no_terminal(name):
 
 
 def test_a_line_that_only_the_libraries_write_is_explained():
-    with pytest.raises(sdjwt.Unreadable, match="^unreadable 1 missing algs$") as raised:
+    with pytest.raises(sdjwt.Unreadable, match="^unreadable 1 missing algs: ") as raised:
         sdjwt.present({"want": []}, "", check=lambda question: True)
     assert raised.value.explanation and raised.value.cause and raised.value.remedy

@@ -46,6 +46,8 @@ def backend(tmp_path, monkeypatch):
     shutil.copytree(TOP / "release", tmp_path / "release", ignore=shutil.ignore_patterns("__pycache__", "out"))
     for name in ("LICENSE-APACHE", "LICENSE-MIT"):
         shutil.copy(TOP / name, tmp_path)
+    for name in ("completions", "docs"):
+        shutil.copytree(TOP / name, tmp_path / name, ignore=shutil.ignore_patterns("*.md", "*.png"))
     (tmp_path / "c/out/lib").mkdir(parents=True)
     (tmp_path / "c/out/lib/libsdjwt.so").write_bytes(b"a library")
     record(tmp_path, "yes")
@@ -105,6 +107,17 @@ def test_its_record_has_each_file_with_its_sum(backend, tmp_path):
         assert said == (f"sha256={digest}", str(len(content))), name
     assert files["sdjwt/libsdjwt.so"][1] == b"a library"
     assert {"sdjwt/__init__.py", "sdjwt/py.typed", "sdjwt/built.json", f"{info}/licenses/LICENSE-MIT"} <= set(files)
+
+
+def test_it_has_the_program_with_its_manual_page_and_its_completions(backend, tmp_path):
+    files = read(built(backend, tmp_path / "made"))
+    name = f"sdjwt-{backend._version()}"
+    assert files[f"{name}.dist-info/entry_points.txt"][1] == b"[console_scripts]\nsdjwt-keys = sdjwt._program:main\n"
+    assert "sdjwt/_program.py" in files and "sdjwt/__main__.py" in files
+    for source, target in backend.SHARED.items():
+        assert files[f"{name}.data/data/{target}"][1] == (TOP / source).read_bytes() != b""
+    with tarfile.open(tmp_path / backend.build_sdist(tmp_path)) as source:
+        assert {f"sdjwt-0.2.0/{name}" for name in backend.SHARED} <= set(source.getnames())
 
 
 def test_it_has_the_notices_of_what_is_linked_also_from_a_source_distribution(backend, tmp_path, monkeypatch):

@@ -18,8 +18,6 @@ mod judge_tests;
 #[cfg(test)]
 mod look_up_tests;
 #[cfg(test)]
-mod nonce_tests;
-#[cfg(test)]
 mod presenting_tests;
 #[cfg(test)]
 mod signing_tests;

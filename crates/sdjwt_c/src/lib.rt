@@ -16,6 +16,7 @@ mod commands;
 mod handle;
 mod judging;
 mod loose;
+mod nonce;
 mod parts;
 mod policy;
 mod presenting;

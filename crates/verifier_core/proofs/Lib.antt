@@ -3,9 +3,7 @@ pub mod ClaimSteps
 pub mod Policies
 pub mod PolicyVersions
 mod PolicyFaults
-mod MemberNames
 mod VersionTwo
-mod NonceFile
 pub mod TokenConditions
 pub mod CheckSteps
 pub mod CheckTests

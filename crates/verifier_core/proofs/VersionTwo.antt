@@ -1,23 +1,70 @@
 -- What a policy file of version 1 says, that of version 2 with the same members says.
-use Rattle.std.proofs.Common.{◌≡◌, ◌≢◌, ⊎_elim, ◌≤◌, pos, List, [], ◌∷◌, length, true, Option, Some, None, codes, refl, sym, ap, subst, ◌∙◌, arith}
+use Rattle.std.proofs.Common.{◌≡◌, ◌≢◌, ◌⊎◌, inl, inr, ⊎_elim, ◌≤◌, pos, List, [], ◌∷◌, length, Bool, true, false, not, cond, bytes_eq, Option, Some, None, codes, refl, sym, ap, subst, ◌∙◌, arith}
+use Rattle.std.specs.List.{list_any}
+use Rattle.std.proofs.lemmas.Bool.{or_left, or_right}
 use Rattle.sd_outside.specs.Limits.{age_max, binding_text_max, file_max, skew_max}
-use Rattle.claim_tree.specs.Tree.{Text, leaf, whole, array, object, Tree, no_elements, element, members_len, names, member_named}
+use Rattle.claim_tree.specs.Tree.{Text, leaf, whole, array, object, Tree, no_elements, element, Members, no_members, member, members_len, names, member_named}
 use Rattle.sd_outside.specs.Lists.{In}
 use Rattle.claim_tree.specs.TreeValues.{IsText, IsTexts, IsWholeUpTo, text_elements, Says, MaySay, SaysOr}
-use Rattle.file_members.specs.FileForms.{found}
+use Rattle.file_members.specs.FileForms.{found, is_known, has_unknown}
 use Rattle.file_members.specs.declared.field.Field.TheVariants.{Version, Iss, Binding}
 use Rattle.file_members.proofs.FileVerdicts as verdicts
+use Rattle.sd_outside.proofs.Lists.{bytes_same, bytes_refl, list_any-In}
 use Rattle.hmac_sign.specs.Keys.{IsKeySet}
 use Rattle.key_binding.specs.ShortText.{IsShortText}
 use Rattle.key_binding.specs.declared.policy.BindingPolicy.{BindingPolicy}
-use Rattle.verifier_core.specs.PolicyFile.{IsBindingPolicy, IsPolicyFile}
+use Rattle.verifier_core.specs.PolicyFile.{IsBindingPolicy, policy_fields, IsPolicyFile}
 use Rattle.verifier_core.specs.PolicyVersion.{IsVersion, IsIssuers, IsAudiences}
 use Rattle.verifier_core.specs.VersionTwo.{as_list, ListsAudience, BindingListed, SaysInTwo}
 use Rattle.verifier_core.specs.declared.policy.Policy.{Policy}
 use Rattle.verifier_core.specs.declared.policy_version.PolicyVersion.{PolicyVersion}
 use Rattle.verifier_core.proofs.PolicyFaults.{says_as, one_reading}
-use Rattle.verifier_core.proofs.MemberNames.{known, named, has_name, is_known_name, apart, differ, all_known}
 use Rattle.verifier_core.proofs.Policies.{one_policy}
+
+-- ---- names
+
+named : (ms : Members) (name : Text) → In name (names ms) → (t : Tree) × (member_named ms name ≡ Some t)
+named no_members name h = absurd h
+named (member other u ms) name h = go (bytes_eq other name) refl h (named ms name)
+  where
+    go : (b : Bool) → bytes_eq other name ≡ b → (name ≡ other) ⊎ In name (names ms) → (In name (names ms) → (t : Tree) × (member_named ms name ≡ Some t)) → (t : Tree) × (cond b (Some u) (member_named ms name) ≡ Some t)
+    go true is at rest = (u, refl)
+    go false is (inl same) rest = let clash : true ≡ false = sym (bytes_refl other name (sym same)) ∙ is in absurd (cc clash)
+    go false is (inr at) rest = rest at
+
+has_name : (ms : Members) (name : Text) (t : Tree) → member_named ms name ≡ Some t → In name (names ms)
+has_name no_members name t h = absurd (cc h)
+has_name (member other u ms) name t h = go (bytes_eq other name) refl h (has_name ms name t)
+  where
+    go : (b : Bool) → bytes_eq other name ≡ b → cond b (Some u) (member_named ms name) ≡ Some t → (member_named ms name ≡ Some t → In name (names ms)) → (name ≡ other) ⊎ In name (names ms)
+    go true is e rest = inl (sym (bytes_same other name is))
+    go false is e rest = inr (rest e)
+
+any_of : (p : Text → Bool) (xs : List Text) (x : Text) → In x xs → p x ≡ true → list_any p xs ≡ true
+any_of p [] x at h = absurd at
+any_of p (z ∷ xs) x (inl same) h = or_left (p z) (list_any p xs) (ap p (sym same) ∙ h)
+any_of p (z ∷ xs) x (inr at) h = or_right (p z) (list_any p xs) (any_of p xs x at h)
+
+abbrev known : Text → Bool
+known name = is_known policy_fields name
+
+-- a name of known members is known
+is_known_name : (ms : Members) (name : Text) → has_unknown policy_fields ms ≡ false → In name (names ms) → known name ≡ true
+is_known_name ms name none at = go (known name) refl
+  where
+    go : (b : Bool) → known name ≡ b → known name ≡ true
+    go true is = is
+    go false is = let clash : false ≡ true = sym none ∙ any_of (λ other. not (known other)) (names ms) name at (ap not is) in absurd (cc clash)
+
+apart : (a b : Text) → (a ≡ b) ⊎ (a ≢ b)
+apart a b = go (bytes_eq a b) refl
+  where
+    go : (c : Bool) → bytes_eq a b ≡ c → (a ≡ b) ⊎ (a ≢ b)
+    go true is = inl (bytes_same a b is)
+    go false is = inr (λ same. let clash : false ≡ true = sym is ∙ bytes_refl a b same in cc clash)
+
+differ : (a b : Text) → bytes_eq a b ≡ false → a ≢ b
+differ a b is same = let clash : false ≡ true = sym is ∙ bytes_refl a b same in cc clash
 
 -- ---- members that are listed
 
@@ -85,10 +132,20 @@ module _ (one two : Text) (policy : Policy) (short : length two ≤ file_max) (s
       is_known_name h.members name h.file.known (has_name h.members name there.0 (sym (of name a b c) ∙ there.1)))
       (apart name (codes "binding"))) (apart name (codes "iss"))) (apart name (codes "version"))
 
+  all_known : has_unknown policy_fields says.others ≡ false
+  all_known = go (has_unknown policy_fields says.others) refl
+    where
+      go : (b : Bool) → has_unknown policy_fields says.others ≡ b → has_unknown policy_fields says.others ≡ false
+      go false is = is
+      go true is =
+          let w = list_any-In (λ name. not (known name)) (names says.others) is in
+          let clash : false ≡ true = sym (ap not (known_name w.0 w.1)) ∙ w.2 in
+          absurd (cc clash)
+
   pub says_in_two : IsPolicyFile two policy
   says_in_two = record {
     members = says.others;
-    file = record { object = record { short = short; reads = says.other_reads }; known = all_known says.others known_name };
+    file = record { object = record { short = short; reads = says.other_reads }; known = all_known };
     version = PolicyVersion.Two;
     version_is = subst (λ o. SaysOr IsVersion PolicyVersion.One o PolicyVersion.Two) (sym says.second) refl;
     keys = subst (λ o. Says IsKeySet o policy.keys) (sym (of (codes "keys") (differ (codes "keys") (codes "version") refl) (differ (codes "keys") (codes "iss") refl) (differ (codes "keys") (codes "binding") refl))) h.keys;

@@ -1,7 +1,6 @@
 pub mod PolicyFile
 pub mod PolicyVersion
 pub mod VersionTwo
-pub mod NonceFile
 pub mod Verdict
 pub mod Seen
 pub mod Content

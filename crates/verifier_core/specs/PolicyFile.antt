@@ -1,5 +1,5 @@
 -- The policy of a verifier, and the file that says it.
-use Rattle.std.specs.Prelude.{◌≡◌, ◌≢◌, pos, List, [], ◌∷◌, Option, Some, codes, option_map}
+use Rattle.std.specs.Prelude.{◌≡◌, ◌≢◌, pos, List, [], ◌∷◌, Option, Some, codes}
 use Rattle.sd_outside.specs.Limits.{age_max, file_max, skew_max}
 use Rattle.claim_tree.specs.Tree.{Text, Tree, leaf, whole, object, Members, members_len, member_named}
 use Rattle.claim_tree.specs.TreeValues.{IsText, IsTexts, IsWholeUpTo, Says, MaySay, SaysOr}
@@ -77,12 +77,3 @@ abbrev pub IsPolicyFileRefused : Text → FileFault → Type 0
 IsPolicyFileRefused bytes (Missing field) = HasPolicyFault bytes (Missing field)
 IsPolicyFileRefused bytes (Wrong field) = HasPolicyFault bytes (Wrong field)
 IsPolicyFileRefused bytes fault = HasNoMembers file_max policy_fields bytes fault
-
--- what is wanted of a key binding token, with this nonce and all else as it was
-abbrev pub binding_with_nonce : Text → BindingPolicy → BindingPolicy
-binding_with_nonce nonce binding = record binding { nonce = nonce }
-
--- the policy with this nonce in its binding, where it has one, and all else as it was
-abbrev pub with_nonce : Policy → Text → Policy
-with_nonce policy nonce =
-    record policy { binding = option_map (binding_with_nonce nonce) policy.binding }

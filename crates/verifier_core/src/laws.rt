@@ -1,6 +1,6 @@
 //! What the definitions of conditions and policies say together. Each law holds for every value.
 ghost use Rattle.std.specs.Prelude.{◌≡◌, ◌≢◌, ◌≤◌, ℕ, List, false, length};
-ghost use Rattle.sd_outside.specs.Limits.{binding_text_max, file_max};
+ghost use Rattle.sd_outside.specs.Limits.{file_max};
 ghost use Rattle.file_members.specs.declared.file_fault.FileFault.{FileFault};
 ghost use Rattle.claim_tree.specs.JsonText.{json_text};
 ghost use Rattle.claim_tree.specs.Tree.{Text, Tree, object, Members, no_members};
@@ -12,8 +12,7 @@ ghost use Rattle.json_form.specs.Json.{IsJson};
 ghost use Rattle.json_form.specs.Token.{IsToken, Spells};
 ghost use Rattle.json_form.specs.Written.{flat_of, general_of};
 ghost use Rattle.marked_tree.specs.Marked.{Marked, strip};
-ghost use Rattle.verifier_core.specs.PolicyFile.{IsPolicyFile, IsPolicyFileRefused, with_nonce};
-ghost use Rattle.verifier_core.specs.NonceFile.{SaysWithNonce};
+ghost use Rattle.verifier_core.specs.PolicyFile.{IsPolicyFile, IsPolicyFileRefused};
 ghost use Rattle.verifier_core.specs.VersionTwo.{SaysInTwo};
 ghost use Rattle.verifier_core.specs.Asking.{AsksHolder, IsAcceptedForAs, caller_demands};
 ghost use Rattle.verifier_core.specs.Meanings.{meanings, AcceptedByMeaning, RefusedByMeaning, OneVerdictByMeaning, AnsweredByMeaning};
@@ -45,17 +44,6 @@ pub fn version_one()
         → IsPolicyFile one policy → IsPolicyFile two policy }
     ensures equal { (one two : List ℕ) (policy other : Policy) → length two ≤ file_max
         → SaysInTwo one two → IsPolicyFile one policy → IsPolicyFile two other → policy ≡ other }
-{}
-
-/// A policy that is given a nonce ([`set_nonce`](crate::Policy::set_nonce)) is the policy of the
-/// same file with this nonce: of one with the same members, but for the nonce of its `binding`.
-pub fn nonce_in_file()
-    ensures said { (one two nonce : List ℕ) (policy : Policy) → length two ≤ file_max
-        → length nonce ≤ binding_text_max → SaysWithNonce one two nonce → IsPolicyFile one policy
-        → IsPolicyFile two (with_nonce policy nonce) }
-    ensures equal { (one two nonce : List ℕ) (policy other : Policy) → length two ≤ file_max
-        → length nonce ≤ binding_text_max → SaysWithNonce one two nonce → IsPolicyFile one policy
-        → IsPolicyFile two other → other ≡ with_nonce policy nonce }
 {}
 
 /// A text under a policy at a moment is accepted with one payload, or refused with one fault.

@@ -1,12 +1,12 @@
 //! What a verifier wants of a token, and the conditions by which it refuses one
 //! (RFC 9901 section 7.3).
 //!
-//! [`read_policy`] reads a [`Policy`] from its file, [`Policy::set_nonce`] gives it the nonce of
-//! one presentation, and [`verify`] and [`verify_payload`] judge a token file under it, by the
-//! conditions 1 to 38. [`check_token`] judges a token itself, [`check_view`] one that is borrowed.
-//! They take two steps, which a caller may take apart: [`Content::read`] reads a token by the
-//! conditions 5 to 13, under [`Rules`], and [`Content::open`] and [`Content::open_payload`] judge
-//! the others. [`fault_line`] is the line that tells of a condition that fails.
+//! [`read_policy`] reads a [`Policy`] from its file, and [`verify`] and [`verify_payload`] judge a
+//! token file under it, by the conditions 1 to 38. [`check_token`] judges a token itself,
+//! [`check_view`] one that is borrowed. They take two steps, which a caller may take apart:
+//! [`Content::read`] reads a token by the conditions 5 to 13, under [`Rules`], and
+//! [`Content::open`] and [`Content::open_payload`] judge the others. [`fault_line`] is the line
+//! that tells of a condition that fails.
 #![tactic(auto)]
 
 mod asking;
@@ -27,7 +27,7 @@ mod verdict;
 pub use asking::{Answers, JudgeError, Judgement, Question, judge, question_on};
 pub use binding_file::AGE_MAX;
 pub use content::Content;
-pub use policy::{NonceError, Policy, SKEW_MAX, read_policy};
+pub use policy::{Policy, SKEW_MAX, read_policy};
 pub use policy_version::{AUDIENCES_MAX, PolicyVersion};
 pub use refusals::fault_line;
 pub use rules::{Issuers, Rules};

@@ -1,11 +1,11 @@
 // The policy of a verifier, and the file that says it.
-ghost use Rattle.std.specs.Prelude.{◌≡◌, ◌↔◌, ◌<◌, [], ◌∷◌, codes, length, IsSome, IsNone, OnOk, OnErr, IfOk, IfErr, IsErrOf, option_map};
-ghost use Rattle.sd_outside.specs.Limits.{binding_text_max, skew_max};
+ghost use Rattle.std.specs.Prelude.{◌≡◌, [], ◌∷◌, codes, IfOk, IfErr, option_map};
+ghost use Rattle.sd_outside.specs.Limits.{skew_max};
 ghost use Rattle.claim_tree.specs.TreeValues.{IsTexts, IsWholeUpTo, SaysOr};
 ghost use Rattle.file_members.specs.FileForms.{optional, found};
 ghost use Rattle.file_members.specs.FileRefusals.{IsMemberRefused};
 ghost use Rattle.file_members.specs.declared.field.Field.TheVariants.{Algs, Require, Skew};
-ghost use Rattle.verifier_core.specs.PolicyFile.{IsPolicyFile, IsPolicyFileRefused, with_nonce};
+ghost use Rattle.verifier_core.specs.PolicyFile.{IsPolicyFile, IsPolicyFileRefused};
 ghost use Rattle.key_binding.specs.Judged.{binding_rules};
 ghost use Rattle.key_binding.specs.JudgedSteps.{rules_seen};
 ghost use Rattle.verifier_core.specs.Verdict.{rules_of, demands_of};
@@ -18,8 +18,8 @@ use claim_tree::TreeMap;
 use compact_form::FILE_MAX;
 use file_members::{Field, FileFault, read_members, text_list_member, text_member, whole_member};
 use hmac_sign::{KeySet, keys_member};
-use key_binding::{BINDING_TEXT_MAX, BindingPolicy, BindingRules};
-use sd_outside::{NoMemory, TextBox, TextList};
+use key_binding::{BindingPolicy, BindingRules};
+use sd_outside::{TextBox, TextList};
 use std::alloc::Global;
 
 /// The most seconds by which clocks may differ.
@@ -56,55 +56,12 @@ pub struct Policy {
     pub binding: Option<BindingPolicy>,
 }
 
-/// Why a policy does not take a nonce.
-#[derive(Clone, Copy, Debug, PartialEq, Eq)]
-pub enum NonceError {
-    /// There was no memory for it.
-    Memory,
-    /// The policy asks for no key binding token.
-    NoBinding,
-    /// It has more bytes than a nonce may have.
-    TooLong,
-}
-
-impl From<NoMemory> for NonceError {
-    ghost use Rattle.verifier_core.specs.declared.policy.NonceError.TheVariants.{Memory};
-
-    ghost from_gives = { λ _ e. e ≡ Memory };
-
-    fn from(_: NoMemory) -> Self {
-        NonceError::Memory
-    }
-}
-
 impl Policy {
     /// What it asks of a token itself.
     pub fn rules(&self) -> Rules<'_>
         ensures { result ≡ rules_of self.now }
     {
         Rules::of_keys(&self.keys, &self.algs, self.typ.as_ref())
-    }
-
-    /// Asks for this nonce in the key binding token, in the place of the one before: each
-    /// presentation has a nonce of its own (RFC 9901 section 7.3).
-    ///
-    /// It has at most [`BINDING_TEXT_MAX`] bytes, in UTF-8. A policy that asks for no key binding
-    /// token takes none, however long it is.
-    pub fn set_nonce(&mut self, alloc: Global, nonce: &str) -> Result<(), NonceError>
-        ensures ok { OnOk result (self.new ≡ with_nonce self.old nonce.now) }
-        ensures no_binding { IsErrOf result NonceError.NoBinding ↔ IsNone self.old.binding }
-        ensures too_long { IsErrOf result NonceError.TooLong
-            ↔ (IsSome self.old.binding × (binding_text_max < length nonce.now)) }
-        ensures kept { OnErr result (self.new ≡ self.old) }
-    {
-        let Some(binding) = &mut self.binding else {
-            return Err(NonceError::NoBinding);
-        };
-        if nonce.len() > BINDING_TEXT_MAX {
-            return Err(NonceError::TooLong);
-        }
-        binding.nonce = TextBox::make(alloc, nonce)?;
-        Ok(())
     }
 
     // What it asks of a token file.

@@ -17,62 +17,77 @@ A token may come from a stranger, so each call that takes one bounds its length 
 
 A key of an order is shared (HMAC): whoever verifies such a token can make one. With `sign` a token is issued, and presented, with
 a private key, of which verifiers have the public one, by the package cryptography, which the extra `keys` installs. Tokens that others
-signed so are verified too. A wallet takes tokens that are signed with shared keys alone.
+signed so are verified too.
 """
 from __future__ import annotations
 
-import json
 import secrets
-from collections.abc import Iterable, Mapping
+from collections.abc import Iterable
 from dataclasses import dataclass
-from time import time as _time
-from typing import TYPE_CHECKING, Any, Literal, Union
+# get_type_hints looks here for the names in the annotations of classes that are shown as those of this module
+from typing import Any, Literal, Optional, overload  # noqa: F401
 
 from sdjwt import _library
-from sdjwt._asking import Asking, CheckFunction, Question, asking_of, skipped_of
+from sdjwt._answers import answered, object_of, without_end
+from sdjwt._asking import AsyncCheckFunction, CheckFunction, Functions, Question, asking_of
 from sdjwt._built import PROVED as proved
 from sdjwt._built import VERSION as __version__
 from sdjwt._confirmed import refuse_secret_key
 from sdjwt._detail import ASKED, UNSIGNED
-from sdjwt._errors import NoCryptography, OutOfMemory, OutOfStack, Refused, SdJwtError, TooLong, Unreadable, unreadable
+from sdjwt._errors import (
+    AlgorithmRefused,
+    AudienceDiffers,
+    BadOrder,
+    BadPresentation,
+    BadSignature,
+    BindingRefused,
+    Expired,
+    IssuerRefused,
+    MissingClaim,
+    NoCryptography,
+    NonceDiffers,
+    NotYetValid,
+    OutOfMemory,
+    OutOfStack,
+    Refused,
+    SdJwtError,
+    TooLong,
+    UnknownKey,
+    Unreadable,
+)
 from sdjwt._given import MOST, file_bytes, held_bytes, moment, seed_bytes, token_bytes
+from sdjwt._key_forms import public_jwk, with_key_sets
 from sdjwt._key_sets import PrivateKeyWarning, SkippedKey
+from sdjwt._parts import parted, shown
+from sdjwt._policy import Policy, Verified
 from sdjwt._presenting import presenting_of
-from sdjwt._signing import SignFunction, signer_of
+from sdjwt._signing import signer_of
 from sdjwt._stack import need_stack
-
-if TYPE_CHECKING:
-    from sdjwt._signing import PrivateKey
+from sdjwt._steps import Steps, finish, finish_async
+from sdjwt._types import (
+    AsyncKeysFunction,
+    AsyncSignFunction,
+    Bytes,
+    Json,
+    Keys,
+    KeysFunction,
+    Moment,
+    PrivateKey,
+    PublicKey,
+    SignFunction,
+)
+from sdjwt._wallet import wallet_of
 
 __all__ = [
-    "MOST", "NoCryptography", "OutOfMemory", "OutOfStack", "Picked", "Policy", "PrivateKeyWarning", "Question", "Refused",
-    "SdJwtError", "SkippedKey", "TooLong", "Unreadable", "__version__", "audit", "convert", "issue", "present", "proved",
-    "show", "split", "verify", "wallet",
+    "MOST", "AlgorithmRefused", "AsyncCheckFunction", "AsyncKeysFunction", "AsyncSignFunction", "AudienceDiffers", "BadOrder",
+    "BadPresentation", "BadSignature", "BindingRefused", "Bytes", "CheckFunction", "Expired", "IssuerRefused", "Json", "Keys",
+    "KeysFunction", "MissingClaim", "Moment", "NoCryptography", "NonceDiffers", "NotYetValid", "OutOfMemory", "OutOfStack",
+    "Picked", "Policy", "PrivateKey", "PrivateKeyWarning", "PublicKey", "Question", "Refused", "SdJwtError", "SignFunction",
+    "SkippedKey", "TooLong", "UnknownKey", "Unreadable", "Verified", "__version__", "audit", "convert", "issue", "issue_async",
+    "present", "present_async", "proved", "public_jwk", "show", "split", "verify", "wallet",
 ]
 
-Bytes = Union[bytes, bytearray, memoryview]
-Json = Union[Mapping[str, Any], str, Bytes]
 _FORMS = {"compact": 0, "flat": 1, "general": 2}
-_DONE, _KEPT = _library.DONE, _library.KEPT
-
-
-def _answer(status: int, said: bytes, *files: tuple[str, bytes]) -> bytes:
-    """What a call said, where it is done. `files` are its first inputs, each with its kind."""
-    if status == _library.DONE:
-        return said
-    line = said.decode().rstrip("\n")
-    if status == _library.REFUSED:
-        raise Refused(line)
-    if status == _library.UNREADABLE:
-        raise unreadable(line, files)
-    if status == _library.MEMORY:
-        raise OutOfMemory("sdjwt: there is no memory")
-    raise AssertionError(f"sdjwt: status {status}")
-
-
-def _without_end(text: bytes) -> str:
-    # each answer is a line, or lines
-    return text.decode()[:-1]
 
 
 def issue(
@@ -88,12 +103,12 @@ def issue(
     >>> token = issue({"payload": {"name": "Ada"}, "hide": ["/name"], "key": key})
     >>> token.count("~")
     2
-    >>> issue({"payload": {"name": "Ada"}, "hide": ["/seat"], "key": key})
+    >>> issue({"payload": {"name": "Ada"}, "hide": ["/seat"], "key": key})  # doctest: +ELLIPSIS
     Traceback (most recent call last):
-    sdjwt._errors.Refused: refused 55 noSuchPlace at 0
+    sdjwt.BadOrder: refused 55 noSuchPlace at 0: ...
 
-    The key of an order is shared. With `sign` the order has neither `key` nor `alg`, and `sign` is a private key of the package
-    cryptography, or a function that is given the bytes to sign and answers the signature. A key of P-256, P-384, P-521 or Ed25519
+    The key of an order is shared. With `sign` the order has neither `key` nor `alg`, and `sign` is a private key, as an object of the
+    package cryptography, a PEM or a JWK, or a function that is given the bytes to sign and returns the signature. A key of P-256, P-384, P-521 or Ed25519
     signs by ES256, ES384, ES512 or EdDSA. For one of RSA `alg` names the algorithm: PS256, PS384, PS512, RS256, RS384 or RS512.
     For a function `alg` names its algorithm, and the signature is the one that a JWS has: of ES256 the 64 bytes of r and s, and
     not the DER that many a vault answers. It is asked once, and not for an order that 51 to 60 refuse.
@@ -106,25 +121,35 @@ def issue(
     >>> show(token)["header"]
     {'alg': 'ES256', 'kid': 'k1'}
     """
-    need_stack()
+    return finish(_issued(order, seed, sign, alg))
+
+
+async def issue_async(
+    order: Json, seed: Bytes | None = None, *, sign: PrivateKey | SignFunction | AsyncSignFunction | None = None, alg: str | None = None,
+) -> str:
+    """`issue` on another thread, so that the event loop goes on. Only here may `sign` be a coroutine function."""
+    return await finish_async(_issued(order, seed, sign, alg))
+
+
+def _issued(order: Json, seed: Bytes | None, sign: object, alg: str | None) -> Steps[str]:
     ordered = file_bytes(order, "order")
     refuse_secret_key(ordered)
     salted = secrets.token_bytes(32) if seed is None else seed_bytes(seed)
     if sign is not None:
-        called = signer_of(sign, alg).issue(ordered, salted)
-        return _without_end(_answer(*called, (UNSIGNED, ordered), ("seed", salted)))
+        called = yield from signer_of(sign, alg).issue(ordered, salted)
+        return without_end(answered(*called, (UNSIGNED, ordered), ("seed", salted)))
     if alg is not None:
         raise ValueError("sdjwt: alg is given without sign; the algorithm of a shared key stands in the order")
-    return _without_end(_answer(*_library.call("issue", ordered, salted), ("order", ordered), ("seed", salted)))
+    return without_end(answered(*_library.call("issue", ordered, salted), ("order", ordered), ("seed", salted)))
 
 
 def present(
-    order: Json, token: Json, now: float | None = None, *, most: int = MOST,
+    order: Json, token: Json, now: Moment | None = None, *, most: int = MOST,
     sign: PrivateKey | SignFunction | None = None, alg: str | None = None, check: CheckFunction | None = None,
 ) -> str:
     """What a holder presents of a token, in its compact form.
 
-    The moment is in seconds since 1970, which a key binding token tells; it is now where none is given.
+    The moment, which a key binding token tells, is in seconds since 1970 or an aware datetime; it is now where none is given.
 
     >>> key = "dGhlIHRpY2tldCBvZmZpY2Uga2V5LCBub3QgeW91cnM"
     >>> token = issue({"payload": {"name": "Ada", "age": 7}, "hide": ["/name", "/age"], "key": key})
@@ -145,22 +170,38 @@ def present(
     >>> show(shown)["binding"] is None, len(show(shown)["disclosures"])
     (False, 1)
     """
-    need_stack()
-    ordered = file_bytes(order, "order")
+    return finish(_presented(order, token, now, most, sign, alg, check))
+
+
+async def present_async(
+    order: Json, token: Json, now: Moment | None = None, *, most: int = MOST,
+    sign: PrivateKey | SignFunction | AsyncSignFunction | None = None, alg: str | None = None,
+    check: CheckFunction | AsyncCheckFunction | None = None,
+) -> str:
+    """`present` on another thread, so that the event loop goes on. Only here may `sign` and `check` be coroutine functions."""
+    return await finish_async(_presented(order, token, now, most, sign, alg, check))
+
+
+def _presented(
+    order: Json, token: Json, now: Moment | None, most: int, sign: object, alg: str | None, check: CheckFunction | AsyncCheckFunction | None,
+) -> Steps[str]:
+    ordered = file_bytes(with_key_sets(order), "order")
     given, at = token_bytes(token, most), moment(now)
     presenting = presenting_of(ordered, check, sign, alg)
     if presenting is not None:
-        return _without_end(_answer(*presenting.present(given, at), (ASKED, ordered)))
-    called = _library.call("present", ordered, given, at)
-    return _without_end(_answer(*called, ("present order", ordered)))
+        called = yield from presenting.present(given, at)
+        return without_end(answered(*called, (ASKED, ordered)))
+    return without_end(answered(*_library.call("present", ordered, given, at), ("present order", ordered)))
 
 
 def verify(
-    policy: Json, token: Json, now: float | None = None, *, most: int = MOST, check: CheckFunction | None = None,
+    policy: Json, token: Json, now: Moment | None = None, *, nonce: str | None = None, audience: str | None = None, most: int = MOST,
+    keys: Keys | KeysFunction | None = None, check: CheckFunction | None = None,
 ) -> dict[str, Any]:
     """The claims of a token that is accepted under a policy. For many tokens under one policy take `Policy`.
 
-    A policy may have public keys, and `check` is a function for signatures under others: `Policy` says how.
+    A policy may have public keys, and `check` is a function for signatures under others: `Policy` says how, and what `nonce` and
+    `audience` are.
 
     >>> key = "dGhlIHRpY2tldCBvZmZpY2Uga2V5LCBub3QgeW91cnM"
     >>> token = issue({"payload": {"iss": "tickets", "exp": 1000, "seat": "B12"}, "hide": ["/seat"], "key": key})
@@ -169,91 +210,19 @@ def verify(
     {'exp': 1000, 'iss': 'tickets', 'seat': 'B12'}
     >>> try:
     ...     verify({"keys": keys}, token, now=1001)
-    ... except Refused as refused:
+    ... except Expired as refused:
     ...     print(refused.number, refused.name, refused.place)
-    ...     print(refused.explanation)
+    ...     print(refused)
     25 expired None
-    The moment of the claim `exp` has come: the token is valid no longer.
+    refused 25 expired: The time of the claim `exp` has come: the token is no longer valid.
     """
     need_stack()
-    asked = file_bytes(policy, "policy")
-    if asking_of(asked, check) is not None:
-        return Policy(asked, check=check).verify(token, now, most=most)
+    asked = file_bytes(with_key_sets(policy), "policy")
+    is_plain = nonce is None and audience is None and keys is None
+    if not is_plain or asking_of(asked, Functions(check)) is not None:
+        return Policy(asked, keys=keys, check=check).verify(token, now, nonce=nonce, audience=audience, most=most)
     called = _library.call("verify", asked, token_bytes(token, most), moment(now))
-    return _object(_answer(*called, ("policy", asked)))
-
-
-class Policy:
-    """A policy that is read once, to verify many tokens. It may be used by many threads at once.
-
-    Its `keys` may have public keys beside those of the kind `oct`, where its `algs` name their algorithms: ES256, ES384,
-    ES512, EdDSA, PS256, RS256 and the like. Signatures under them are checked by the package cryptography. The key of a
-    holder is `cnf.jwk` of the token, or the key of the `keys` of the `binding` that `cnf.kid` names. `binding` may have
-    `algs` of its own, the algorithms of holders; it needs no `keys` if one of these is for public keys. An invalid key is
-    skipped, and `skipped_keys` lists it. `check` is a function that is asked of a signature for which no key is here, by a
-    `Question`: it answers True where it is good, False where it is bad, and None where it has no key for it. It is never
-    asked about an HMAC.
-
-    >>> key = "dGhlIHRpY2tldCBvZmZpY2Uga2V5LCBub3QgeW91cnM"
-    >>> policy = Policy({"keys": {"keys": [{"kty": "oct", "k": key}]}, "require": ["seat"]})
-    >>> policy.verify(issue({"payload": {"seat": "B12"}, "hide": ["/seat"], "key": key}))
-    {'seat': 'B12'}
-    >>> Policy({"keys": {"keys": []}, "skew": "much"})
-    Traceback (most recent call last):
-    sdjwt._errors.Unreadable: unreadable 1 wrong skew
-    """
-
-    __slots__ = ("_asking", "_handles", "_text")
-
-    def __init__(self, policy: Json, *, check: CheckFunction | None = None) -> None:
-        need_stack()
-        text = file_bytes(policy, "policy")
-        self._asking: Asking | None = asking_of(text, check)
-        self._text = text if self._asking is None else self._asking.file
-        # handles that no call uses: each call takes one, so that none is used by two
-        self._handles = [self._handle()]
-        if self._asking is not None:
-            self._asking.read_keys()
-
-    def _handle(self) -> _library.Handle:
-        status, line, handle = _library.new_handle(self._text)
-        _answer(status, line, ("policy", self._text))
-        return handle
-
-    def verify(self, token: Json, now: float | None = None, *, most: int = MOST) -> dict[str, Any]:
-        """The claims of a token that is accepted."""
-        need_stack()
-        # what needs no look at the types stands here, since this call is to be fast
-        given = token if type(token) is bytes and type(most) is int and len(token) <= most else token_bytes(token, most)
-        at = max(0, int(_time())) if now is None else moment(now)
-        handles, asking = self._handles, self._asking
-        try:
-            handle = handles.pop()
-        except IndexError:
-            handle = self._handle()
-        try:
-            status, said = handle.verify(given, at) if asking is None else asking.verify(handle, given, at)
-        finally:
-            if len(handles) < _KEPT:
-                handles.append(handle)
-        if status != _DONE:
-            _answer(status, said)
-        claims: dict[str, Any] = _read_json(said.decode())[0]
-        return claims
-
-    @property
-    def skipped_keys(self) -> tuple[SkippedKey, ...]:
-        """The keys of the policy that were skipped, each with the reason."""
-        return skipped_of(self._text) if self._asking is None else self._asking.skipped
-
-
-# no wish of json.loads, as to tell the encoding of bytes, has to be looked for: the text is the library's
-_read_json = json.JSONDecoder().raw_decode
-
-
-def _object(text: bytes) -> dict[str, Any]:
-    found: dict[str, Any] = _read_json(text.decode())[0]
-    return found
+    return object_of(answered(*called, ("policy", asked)))
 
 
 def show(token: Json, *, most: int = MOST) -> dict[str, Any]:
@@ -269,24 +238,7 @@ def show(token: Json, *, most: int = MOST) -> dict[str, Any]:
     [('name', 'Ada')]
     """
     need_stack()
-    inside: dict[str, Any] = {"disclosures": [], "binding": None}
-    for line in _without_end(_answer(*_library.call("show", token_bytes(token, most)))).split("\n"):
-        word, said = line.split(" ", 1)
-        if word == "disclosure":
-            inside["disclosures"].append(_shown(said))
-        else:
-            inside[word] = said if word == "binding" else json.loads(said)
-    return inside
-
-
-def _shown(line: str) -> dict[str, Any]:
-    _, digest, kind, said = line.split(" ", 3)
-    shown: dict[str, Any] = {"digest": digest}
-    if kind == "member":
-        shown["name"], end = json.JSONDecoder().raw_decode(said)
-        said = said[end:]
-    shown["value"] = json.loads(said)
-    return shown
+    return shown(token_bytes(token, most))
 
 
 def split(token: Json, *, most: int = MOST) -> dict[str, Any]:
@@ -298,16 +250,13 @@ def split(token: Json, *, most: int = MOST) -> dict[str, Any]:
     True
     """
     need_stack()
-    parts: dict[str, Any] = {"disclosures": [], "binding": None}
-    for line in _without_end(_answer(*_library.call("split", token_bytes(token, most)))).split("\n"):
-        word, said = line.split(" ", 1)
-        if word == "disclosure":
-            parts["disclosures"].append(said.split(" ", 1)[1])
-        else:
-            parts[word] = said
-    return parts
+    return parted(token_bytes(token, most))
 
 
+@overload
+def convert(form: Literal["compact"], token: Json, *, most: int = MOST) -> str: ...
+@overload
+def convert(form: Literal["flat", "general"], token: Json, *, most: int = MOST) -> dict[str, Any]: ...
 def convert(form: Literal["compact", "flat", "general"], token: Json, *, most: int = MOST) -> str | dict[str, Any]:
     """A token in another form, unchecked: compact as a str, and flat or general as the dict of its JSON.
 
@@ -323,8 +272,8 @@ def convert(form: Literal["compact", "flat", "general"], token: Json, *, most: i
         raise TypeError(f"sdjwt: form is of type {type(form).__name__}, and has to be a str")
     if form not in _FORMS:
         raise ValueError(f"sdjwt: form is none of {', '.join(_FORMS)}")
-    text = _answer(*_library.call("convert", _FORMS[form], token_bytes(token, most)))
-    return _without_end(text) if form == "compact" else _object(text)
+    text = answered(*_library.call("convert", _FORMS[form], token_bytes(token, most)))
+    return without_end(text) if form == "compact" else object_of(text)
 
 
 def audit(order: Json, token: Json, *, most: int = MOST) -> None:
@@ -336,13 +285,18 @@ def audit(order: Json, token: Json, *, most: int = MOST) -> None:
     >>> order = {"payload": {"name": "Ada"}, "hide": ["/name"], "key": "dGhlIHRpY2tldCBvZmZpY2Uga2V5LCBub3QgeW91cnM"}
     >>> token = issue(order)
     >>> audit(order, token)
-    >>> audit({**order, "payload": {"name": "Eve"}}, token)
+    >>> audit({**order, "payload": {"name": "Eve"}}, token)  # doctest: +ELLIPSIS
     Traceback (most recent call last):
-    sdjwt._errors.Refused: refused 83 payloadDiffers
+    sdjwt.Refused: refused 83 payloadDiffers: ...
     """
     need_stack()
     ordered = file_bytes(order, "order")
-    _answer(*_library.call("audit", ordered, token_bytes(token, most)), ("order", ordered))
+    try:
+        answered(*_library.call("audit", ordered, token_bytes(token, most)), ("order", ordered))
+    except Unreadable as fault:
+        if fault.reason != "missing key":
+            raise
+        raise Unreadable(fault.line, f"{fault.detail}; a token that is signed with a private key cannot be audited") from None
 
 
 @dataclass(frozen=True)
@@ -356,7 +310,7 @@ class Picked:
 def wallet(query: Json, tokens: Iterable[Json], *, most: int = MOST) -> Picked:
     """Of 1 to 64 tokens that a holder has, the one that answers a query with the fewest disclosures.
 
-    `most` bounds the length of each token.
+    `most` bounds the length of each token. The `keys` of the query may be public ones, each for the algorithms of its type.
 
     >>> key = "dGhlIHRpY2tldCBvZmZpY2Uga2V5LCBub3QgeW91cnM"
     >>> ticket = issue({"payload": {"name": "Ada", "seat": "B12"}, "hide": ["/name", "/seat"], "key": key})
@@ -365,12 +319,13 @@ def wallet(query: Json, tokens: Iterable[Json], *, most: int = MOST) -> Picked:
     >>> picked = wallet(query, [badge, ticket])
     >>> picked.index, [disclosure["name"] for disclosure in show(picked.token)["disclosures"]]
     (1, ['seat'])
-    >>> wallet({**query, "want": ["/name"]}, [badge, ticket])
+    >>> wallet({**query, "want": ["/name"]}, [badge, ticket])  # doctest: +ELLIPSIS
     Traceback (most recent call last):
-    sdjwt._errors.Refused: refused 77 noCredentialAnswers
+    sdjwt.Refused: refused 77 noCredentialAnswers: ...
     """
     need_stack()
-    asked = file_bytes(query, "query")
-    called = _library.call_wallet(asked, held_bytes(tokens, most))
-    number, token = _without_end(_answer(*called, ("query", asked))).split("\n", 1)
+    asked = file_bytes(with_key_sets(query), "query")
+    held, kept = held_bytes(tokens, most), wallet_of(asked)
+    called = _library.call_wallet(asked, held) if kept is None else kept.choose(held)
+    number, token = without_end(answered(*called, ("query", asked))).split("\n", 1)
     return Picked(int(number.removeprefix("credential ")), token)

@@ -17,6 +17,10 @@ _SEED_LEN = 32
 _KEY_MIN = {"HS256": 32, "HS384": 48, "HS512": 64}
 _HASHES = ("sha-256", "sha-384", "sha-512")
 _LETTERS = "ABCDEFGHIJKLMNOPQRSTUVWXYZabcdefghijklmnopqrstuvwxyz0123456789-_"
+# The letters of a key of 32 bytes.
+_KEY_LETTERS = 43
+# The beginning of a compact token, or a JWT.
+_TOKEN = re.compile(r"\s*(?:[A-Za-z0-9_-]+\.){2}[A-Za-z0-9_-]+(?:~|\s*$)")
 
 
 class Fault(NamedTuple):
@@ -226,7 +230,7 @@ def _unevens(value: Any, place: str) -> Iterator[tuple[_Uneven, str]]:
         yield value, place
     elif isinstance(value, dict):
         for name, member in value.items():
-            yield from _unevens(member, f"{place}/{_step(name)}")
+            yield from _unevens(member, f"{place}/{step(name)}")
     elif isinstance(value, list):
         for i, element in enumerate(value):
             yield from _unevens(element, f"{place}/{i}")
@@ -241,11 +245,11 @@ def _cut(name: str) -> str:
     return name if len(name) <= 24 else name[:8] + ".."
 
 
-def _step(name: str) -> str:
+def step(name: str) -> str:
     return _cut(name).replace("~", "~0").replace("/", "~1")
 
 
-def _shown_place(place: str) -> str:
+def shown_place(place: str) -> str:
     """A place as it is told, in ASCII. Of one that is long only its end is told."""
     shown = json.dumps(place)[1:-1]
     return (shown if len(shown) <= 160 else ".." + shown[-160:]) or "the top"
@@ -258,7 +262,7 @@ def _shown_name(name: str) -> str:
 # The forms of the members. A check answers what is wrong, and nothing where the value is of its form.
 
 def _at(place: str, said: str) -> str:
-    return f"at {_shown_place(place)}: {said}"
+    return f"at {shown_place(place)}: {said}"
 
 
 def _is(value: Any) -> str:
@@ -363,6 +367,12 @@ def _miscoded(key: str) -> str:
     return ""
 
 
+def _miscoded_key(key: str) -> str:
+    """The same for a key. It is said first that it is too short."""
+    said, letters = _miscoded(key), len(key.rstrip("="))
+    return f"it is too short: {letters} letters, and a key has at least {_KEY_LETTERS}" if said and letters < _KEY_LETTERS else said
+
+
 def _is_short(key: str) -> str:
     length = len(key) * 6 // 8
     return "" if length >= 32 else f"it codes {length} bytes, of the at least 32 that a key has"
@@ -370,7 +380,7 @@ def _is_short(key: str) -> str:
 
 def _key(value: Any, place: str, file: dict[str, Any]) -> str:
     wrong = _text(value, place, file)
-    said = "" if wrong else _miscoded(value) or _is_short(value)
+    said = "" if wrong else _miscoded_key(value) or _is_short(value)
     return wrong or (_at(place, said) if said else "")
 
 
@@ -402,7 +412,7 @@ def _key_set(value: Any, place: str, file: dict[str, Any]) -> str:
     keys = value["keys"]
     wrong = _first(_key_form(key, f"{place}/keys/{i}") for i, key in enumerate(keys))
     codes = [] if wrong else [(f"{place}/keys/{i}/k", key["k"]) for i, key in enumerate(keys) if key["kty"] == "oct"]
-    said = [(at, why(code)) for why in (_miscoded, _is_short) for at, code in codes]
+    said = [(at, why(code)) for why in (_miscoded_key, _is_short) for at, code in codes]
     return wrong or _first(_at(at, why) for at, why in said if why)
 
 
@@ -497,10 +507,11 @@ def fault(kind: str, content: bytes) -> Fault | None:
     try:
         value = reader.document()
     except _NotJson as broken:
-        return Fault("notJson", f"{_where(text, broken.at)}: {broken.said}")
+        said = "this is a token; the policy, the order or the query comes first" if _TOKEN.match(text) else broken.said
+        return Fault("notJson", f"{_where(text, broken.at)}: {said}")
     uneven, place = min(_unevens(value, ""), default=(None, "")) if reader.has_uneven else (None, "")
     if uneven is not None:
-        return Fault("notWhole", f"{_where(text, uneven.at)}: the number at {_shown_place(place)} {uneven.why}")
+        return Fault("notWhole", f"{_where(text, uneven.at)}: the number at {shown_place(place)} {uneven.why}")
     return _form_fault(kind, value) if isinstance(value, dict) else Fault("notObject", f"it is {_is(value)}, and has to be an object")
 
 

@@ -1,4 +1,8 @@
-"""Why there is no answer."""
+"""The exceptions of the package.
+
+A refusal is of the class that the table CLASSES has for its number. Programs see the classes under the name of the package, for
+example `sdjwt.Expired`, which a log shows too.
+"""
 from __future__ import annotations
 
 import json
@@ -9,6 +13,11 @@ from pathlib import Path
 
 from sdjwt import _detail
 
+# The module that a log shows, and where pickle looks for a class.
+_SHOWN = "sdjwt"
+# A link of docs/REFUSALS.md, of which a sentence has only the text.
+_LINK = re.compile(r"\[([^\]]*)\]\([^)]*\)")
+
 
 @lru_cache(maxsize=None)
 def _explanations() -> dict[str, dict[str, str]]:
@@ -18,15 +27,32 @@ def _explanations() -> dict[str, dict[str, str]]:
 
 
 class SdJwtError(Exception):
-    """There is no answer. `line` is what the program sdjwt writes in its place."""
+    """The call has no result. `line` is what the program sdjwt writes then.
 
-    def __init__(self, line: str, heading: str) -> None:
+    `str` of it is a sentence for a person: the line, and what is wrong or what the line means.
+    """
+
+    __module__ = _SHOWN
+
+    def __init__(self, line: str, heading: str = "") -> None:
         super().__init__(line)
         self.line = line
         self._said = _explanations().get(heading, {})
 
-    def __reduce__(self) -> tuple[type, tuple[object, ...]]:
-        return type(self), (self.line,)
+    def __str__(self) -> str:
+        said = self._sentence()
+        return f"{self.line}: {said}" if said else self.line
+
+    def _sentence(self) -> str:
+        return _LINK.sub(r"\1", self.explanation)
+
+    def _made_of(self) -> tuple[object, ...]:
+        """What the class is called with to make the same exception, for pickle and copy."""
+        return (self.line,)
+
+    def __reduce__(self) -> tuple[object, ...]:
+        notes = getattr(self, "__notes__", None)
+        return type(self), self._made_of(), {"__notes__": list(notes)} if notes else None
 
     @property
     def explanation(self) -> str:
@@ -45,10 +71,13 @@ class SdJwtError(Exception):
 
 
 class Refused(SdJwtError):
-    """A rule refuses what was given. Only the first that fails is named.
+    """A rule refuses what was given. Only the first rule that fails is named.
 
-    `number` and `name` are those of docs/REFUSALS.md, and `place` says where, or is None.
+    `number` and `name` are those of docs/REFUSALS.md, and `place` says where, or is None. Refusals that programs tell apart have
+    classes of their own below this one.
     """
+
+    __module__ = _SHOWN
 
     def __init__(self, line: str) -> None:
         words = re.fullmatch(r"refused (\d+) (\w+)(?: at (.*))?", line, re.S)
@@ -60,11 +89,99 @@ class Refused(SdJwtError):
         self.place: str | None = words[3]
 
 
+class AlgorithmRefused(Refused):
+    """The policy does not accept the algorithm of the token."""
+
+    __module__ = _SHOWN
+
+
+class UnknownKey(Refused):
+    """No key of the policy is the one that signed the token."""
+
+    __module__ = _SHOWN
+
+
+class BadSignature(Refused):
+    """The signature of the token is bad."""
+
+    __module__ = _SHOWN
+
+
+class IssuerRefused(Refused):
+    """The claim `iss` is missing, or is not what the policy accepts."""
+
+    __module__ = _SHOWN
+
+
+class MissingClaim(Refused):
+    """The token does not show a claim that the policy requires. `place` is its position in `require`."""
+
+    __module__ = _SHOWN
+
+
+class Expired(Refused):
+    """The time `exp` of the token has come."""
+
+    __module__ = _SHOWN
+
+
+class NotYetValid(Refused):
+    """The time `nbf` of the token has not come."""
+
+    __module__ = _SHOWN
+
+
+class BindingRefused(Refused):
+    """The key binding token is missing, or does not fit the policy or the token."""
+
+    __module__ = _SHOWN
+
+
+class NonceDiffers(BindingRefused):
+    """The key binding token has another nonce. It was made for another request, or is used twice."""
+
+    __module__ = _SHOWN
+
+
+class AudienceDiffers(BindingRefused):
+    """The key binding token was made for another verifier."""
+
+    __module__ = _SHOWN
+
+
+class BadOrder(Refused):
+    """`issue` refuses the order."""
+
+    __module__ = _SHOWN
+
+
+class BadPresentation(Refused):
+    """`present` refuses the order: the token does not have what is wanted, or it may not be shown."""
+
+    __module__ = _SHOWN
+
+
+# The numbers of docs/REFUSALS.md that have a class of their own. Every other number is Refused.
+CLASSES: dict[int, type[Refused]] = {
+    4: BindingRefused, 7: AlgorithmRefused, 9: UnknownKey, 10: BadSignature, 22: IssuerRefused, 23: MissingClaim, 25: Expired,
+    26: NotYetValid, **dict.fromkeys(range(27, 39), BindingRefused), 35: NonceDiffers, 36: AudienceDiffers,
+    **dict.fromkeys(range(51, 62), BadOrder), **dict.fromkeys(range(71, 76), BadPresentation),
+}
+
+
+def refusal(line: str) -> Refused:
+    """The exception for the line of a refusal."""
+    number = re.match(r"refused (\d+) ", line)
+    return CLASSES.get(int(number[1]) if number is not None else 0, Refused)(line)
+
+
 class Unreadable(SdJwtError, ValueError):
-    """An order, a policy or a query is not of its form.
+    """An order, a policy or a query does not have its form.
 
     `reason` says what is wrong with it. `input` is 1, the number that the line has for it.
     """
+
+    __module__ = _SHOWN
 
     def __init__(self, line: str, detail: str | Callable[[str], str] = "") -> None:
         words = re.fullmatch(r"unreadable (\d+) (.*)", line, re.S)
@@ -75,8 +192,11 @@ class Unreadable(SdJwtError, ValueError):
         self.reason: str = words[2]
         self._detail = detail
 
-    def __reduce__(self) -> tuple[type, tuple[object, ...]]:
-        return type(self), (self.line, self.detail)
+    def _sentence(self) -> str:
+        return self.detail or super()._sentence()
+
+    def _made_of(self) -> tuple[object, ...]:
+        return self.line, self.detail
 
     @property
     def detail(self) -> str:
@@ -105,13 +225,19 @@ class TooLong(SdJwtError, ValueError):
     The program has no such line: `line` says what is too long, and by which bound.
     """
 
+    __module__ = _SHOWN
+
     def __init__(self, given: str, most: int) -> None:
         super().__init__(f"sdjwt: {given} has more than {most} bytes, the most that is taken", "")
         self.given = given
         self.most = most
 
-    def __reduce__(self) -> tuple[type, tuple[object, ...]]:
-        return type(self), (self.given, self.most)
+    def _sentence(self) -> str:
+        # the line is a sentence
+        return ""
+
+    def _made_of(self) -> tuple[object, ...]:
+        return self.given, self.most
 
     @property
     def explanation(self) -> str:
@@ -132,6 +258,8 @@ class TooLong(SdJwtError, ValueError):
 class NoCryptography(SdJwtError, ImportError):
     """A policy has public keys, or a private key is to sign, and the package cryptography, which does so, is not installed."""
 
+    __module__ = _SHOWN
+
     def __init__(self, line: str = "sdjwt: a policy with public keys needs the package cryptography: pip install cryptography") -> None:
         super().__init__(line, "")
 
@@ -139,6 +267,10 @@ class NoCryptography(SdJwtError, ImportError):
 class OutOfMemory(MemoryError):
     """The library found no memory for the call."""
 
+    __module__ = _SHOWN
+
 
 class OutOfStack(RuntimeError):
     """The thread has less of its stack left than a call may need, as one that was given a small one. The library was not asked."""
+
+    __module__ = _SHOWN

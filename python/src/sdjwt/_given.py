@@ -6,17 +6,23 @@ from __future__ import annotations
 
 import json
 from collections.abc import Iterable, Mapping
+from datetime import datetime, timedelta, timezone
 from itertools import islice
+from math import isfinite
 from time import time
 from typing import Any
 
 from sdjwt import _library
+from sdjwt._detail import shown_place, step
 from sdjwt._errors import TooLong
 
 # The greatest length of a token in bytes, where the caller gives none.
 MOST = 1_048_576
 # The length of a seed in bytes.
 SEED_LENGTH = 32
+# How many values, and how deep, are looked at for one that JSON does not have. A value may contain itself.
+_SEARCHED_MAX = 20_000
+_DEPTH_MAX = 128
 
 
 def file_bytes(given: object, name: str) -> bytes:
@@ -24,10 +30,7 @@ def file_bytes(given: object, name: str) -> bytes:
     if isinstance(given, Mapping):
         given = _written(given, name)
     if isinstance(given, str):
-        try:
-            return str.encode(given)
-        except UnicodeEncodeError:
-            raise ValueError(f"sdjwt: {name} has half of a surrogate pair in it, which no text has") from None
+        return _text_bytes(given, name)
     return _plain_bytes(given, name, "a dict, or a JSON text as str or bytes")
 
 
@@ -88,10 +91,7 @@ def alg_bytes(given: object) -> bytes:
     """The name of an algorithm. That it is one is for the library to say."""
     if not isinstance(given, str):
         raise TypeError(f"sdjwt: alg is of type {type(given).__name__}, and has to be a str")
-    try:
-        return str.encode(given)
-    except UnicodeEncodeError:
-        raise ValueError("sdjwt: alg has half of a surrogate pair in it, which no text has") from None
+    return _text_bytes(given, "alg")
 
 
 def signature_bytes(given: object) -> bytes:
@@ -100,14 +100,38 @@ def signature_bytes(given: object) -> bytes:
 
 
 def moment(now: object) -> int:
-    """A moment in whole seconds since 1970, and the present one where none is given."""
+    """A time in whole seconds since 1970, and the present one if none is given."""
     if now is None:
         return max(0, int(time()))
+    if isinstance(now, datetime):
+        now = _seconds(now)
     if isinstance(now, bool) or not isinstance(now, (int, float)):
-        raise TypeError(f"sdjwt: now is of type {type(now).__name__}, and has to be seconds since 1970, an int or a float")
+        raise TypeError(f"sdjwt: now is of type {type(now).__name__}, and has to be seconds since 1970, an int or a float, or a datetime")
     if not 0 <= now < 2**64:
         raise ValueError("sdjwt: now is no moment from 0 to 2**64 - 1, in seconds since 1970")
     return int(now)
+
+
+def _seconds(now: datetime) -> int:
+    if now.utcoffset() is None:
+        raise ValueError("sdjwt: now is a datetime without a time zone: give an aware one, as datetime.now(timezone.utc)")
+    # a float of seconds could be rounded up to the next second
+    return (now - datetime(1970, 1, 1, tzinfo=timezone.utc)) // timedelta(seconds=1)
+
+
+def named_text(given: object, name: str) -> str:
+    """A nonce or an audience of a call. How long it may be is for the library to say."""
+    if not isinstance(given, str):
+        raise TypeError(f"sdjwt: {name} is of type {type(given).__name__}, and has to be a str")
+    _text_bytes(given, name)
+    return given
+
+
+def _text_bytes(given: str, name: str) -> bytes:
+    try:
+        return str.encode(given)
+    except UnicodeEncodeError:
+        raise ValueError(f"sdjwt: {name} has half of a surrogate pair in it, which no text has") from None
 
 
 def _written(given: Mapping[Any, Any], name: str, allow_nan: bool = False) -> str:
@@ -116,10 +140,11 @@ def _written(given: Mapping[Any, Any], name: str, allow_nan: bool = False) -> st
     except RecursionError:
         raise ValueError(f"sdjwt: {name} is nested too deep") from None
     except TypeError as fault:
-        raise TypeError(f"sdjwt: {name} can't be written as JSON: {fault}") from None
+        raise TypeError(f"sdjwt: {name} can't be written as JSON: {_stray(given) or fault}") from None
     except ValueError as fault:
-        raise ValueError(f"sdjwt: {name} can't be written as JSON: {fault}") from None
-    _need_names(given, name)
+        raise ValueError(f"sdjwt: {name} can't be written as JSON: {_stray(given) or fault}") from None
+    if not _has_plain_names(given):
+        raise TypeError(f"sdjwt: {name} can't be written as JSON: {_stray(given) or 'a name of a member is no str'}")
     return text
 
 
@@ -131,14 +156,45 @@ def _plain(value: object) -> dict[Any, Any]:
     raise TypeError(f"a value is of type {type(value).__name__}")
 
 
-def _need_names(given: Mapping[Any, Any], name: str) -> None:
-    """Each name of a member has to be a str. JSON would have another one in quotes, where it meets one that stood in quotes."""
+def _has_plain_names(given: Mapping[Any, Any]) -> bool:
+    """Whether each name of a member is a str. JSON would have another one in quotes, where it meets one that stood in quotes."""
     left: list[Any] = [given]
     while left:
         value = left.pop()
         if isinstance(value, Mapping):
-            for member in value:
-                if not isinstance(member, str):
-                    raise TypeError(f"sdjwt: {name} has a name of a member that is of type {type(member).__name__}, and has to be a str")
+            if not all(isinstance(member, str) for member in value):
+                return False
             value = value.values()
         left.extend(inner for inner in value if isinstance(inner, (Mapping, list, tuple)))
+    return True
+
+
+def _stray(given: object) -> str:
+    """The first value or name that JSON does not have, with its place, as `/a/b/0: datetime`. Empty if none is found."""
+    left: list[tuple[int, str, object]] = [(0, "", given)]
+    for _ in range(_SEARCHED_MAX):
+        if not left:
+            break
+        depth, place, value = left.pop()
+        said = _no_json(value)
+        if said:
+            return f"{shown_place(place)}: {said}"
+        if depth < _DEPTH_MAX:
+            left.extend((depth + 1, f"{place}/{step(str(name))}", inner) for name, inner in reversed(_items(value)))
+    return ""
+
+
+def _items(value: object) -> list[tuple[Any, object]]:
+    if isinstance(value, Mapping):
+        return list(value.items())
+    return list(enumerate(value)) if isinstance(value, (list, tuple)) else []
+
+
+def _no_json(value: object) -> str:
+    """Why JSON has no such value or names. Of a value inside it nothing is said."""
+    if isinstance(value, float) and not isfinite(value):
+        return f"the number {value}"
+    if isinstance(value, Mapping):
+        others = [type(name).__name__ for name in value if not isinstance(name, str)]
+        return f"a name of type {others[0]}, and names of members are str" if others else ""
+    return "" if value is None or isinstance(value, (str, int, float, list, tuple)) else type(value).__name__

@@ -19,6 +19,8 @@ _DESCRIBED_MAX = 8
 class PrivateKeyWarning(UserWarning):
     """A key set contains a private key instead of a public one."""
 
+    __module__ = "sdjwt"
+
 
 @dataclass(frozen=True)
 class SkippedKey:
@@ -27,6 +29,8 @@ class SkippedKey:
     `where` is "keys" for the issuers' set and "binding" for the holders', `index` is the position in the set, counted from 0,
     and `kid` is the name of the key or None.
     """
+
+    __module__ = "sdjwt"
 
     where: str
     index: int
@@ -99,12 +103,12 @@ def warn_of_private(holder: Mapping[str, Any], place: str, file: str) -> None:
     for index, jwk in enumerate(jwks(holder)):
         names = [name for name in PRIVATE if isinstance(jwk, dict) and name in jwk]
         if names and not is_oct(jwk):
-            _warn(f"sdjwt: the key at {place}/keys/keys/{index} of the {file} has the private member {names[0]}: "
-                  "anyone who can read it can sign. Give the public key only.")
+            warn(f"sdjwt: the key at {place}/keys/keys/{index} of the {file} has the private member {names[0]}: "
+                 "anyone who can read it can sign. Give the public key only.")
 
 
-def _warn(said: str) -> None:
-    """Warns, with the line that called the package as the source."""
+def warn(said: str) -> None:
+    """Warns of a private key, with the line that called the package as the source."""
     level, frame = 1, inspect.currentframe()
     while frame is not None and frame.f_globals.get("__name__", "").partition(".")[0] == "sdjwt":
         level, frame = level + 1, frame.f_back

@@ -32,6 +32,8 @@ CURVES = {"P-256": ("ES256", 32), "P-384": ("ES384", 48), "P-521": ("ES512", 66)
 ED25519 = ("EdDSA", "Ed25519")
 RSA = ("PS256", "PS384", "PS512", "RS256", "RS384", "RS512")
 RSA_BITS_MIN = 2048
+# The members of a public key, in the order in which a thumbprint has them (RFC 7638 section 3.2).
+MEMBERS = {"EC": ("crv", "kty", "x", "y"), "OKP": ("crv", "kty", "x"), "RSA": ("e", "kty", "n")}
 # All algorithms with public keys that are implemented here.
 PUBLIC = (*(alg for alg, _ in CURVES.values()), *ED25519, *RSA)
 _LETTERS = re.compile(r"[A-Za-z0-9_-]+")
@@ -46,10 +48,11 @@ class UnusedKey(BadKey):
 
 
 class Key(NamedTuple):
-    """A key: its name, and its check for each algorithm that it serves."""
+    """A key: its name, its check for each algorithm that it serves, and the members of the JWK that are no secret."""
 
     kid: Optional[str]
     checks: dict[str, Check]
+    public: dict[str, Any]
 
 
 def is_shared(alg: object) -> bool:
@@ -103,7 +106,8 @@ def key_of(jwk: object) -> Key:
     kid = jwk.get("kid")
     if kid is not None and not isinstance(kid, str):
         raise BadKey("kid is no text")
-    return Key(kid, _mac_checks(jwk, names) if jwk["kty"] == "oct" else _public_checks(jwk, names))
+    public = {name: jwk[name] for name in (*MEMBERS.get(jwk["kty"], ("kty",)), "kid") if name in jwk}
+    return Key(kid, _mac_checks(jwk, names) if jwk["kty"] == "oct" else _public_checks(jwk, names), public)
 
 
 def _unknown_type(kind: str) -> str:
@@ -114,7 +118,7 @@ def _unknown_type(kind: str) -> str:
 
 def _mac_checks(jwk: Mapping[str, Any], names: tuple[str, ...]) -> dict[str, Check]:
     """The checks of HMACs, by the algorithms for which the key is long enough."""
-    secret = _member(jwk, "k")
+    secret = member_of(jwk, "k")
     checks = {name: _mac_check(secret, MACS[name].hash_name) for name in names if len(secret) >= MACS[name].key_min}
     if not checks:
         raise BadKey(f"k has {len(secret)} bytes, and {names[0]} needs at least {MACS[names[0]].key_min}")
@@ -132,16 +136,17 @@ def _public_checks(jwk: Mapping[str, Any], names: tuple[str, ...]) -> dict[str, 
         raise NoCryptography() from missing
     if jwk["kty"] == "EC":
         size = CURVES[jwk["crv"]][1]
-        return {names[0]: _signatures.ecdsa(jwk["crv"], _member(jwk, "x", size), _member(jwk, "y", size))}
+        return {names[0]: _signatures.ecdsa(jwk["crv"], member_of(jwk, "x", size), member_of(jwk, "y", size))}
     if jwk["kty"] == "OKP":
-        return dict.fromkeys(names, _signatures.ed25519(_member(jwk, "x", 32)))
-    n, e = _number(jwk, "n"), _number(jwk, "e")
+        return dict.fromkeys(names, _signatures.ed25519(member_of(jwk, "x", 32)))
+    n, e = number_of(jwk, "n"), number_of(jwk, "e")
     if n.bit_length() < RSA_BITS_MIN:
         raise BadKey(f"n has fewer than {RSA_BITS_MIN} bits")
     return _signatures.rsa_checks(n, e, names)
 
 
-def _member(jwk: Mapping[str, Any], name: str, size: int | None = None) -> bytes:
+def member_of(jwk: Mapping[str, Any], name: str, size: int | None = None) -> bytes:
+    """The bytes of a member of a JWK."""
     text = jwk.get(name)
     if not isinstance(text, str) or _LETTERS.fullmatch(text) is None or len(text) % 4 == 1:
         raise BadKey(f"{name} is no base64url text without padding")
@@ -153,13 +158,14 @@ def _member(jwk: Mapping[str, Any], name: str, size: int | None = None) -> bytes
     return content
 
 
-def _number(jwk: Mapping[str, Any], name: str) -> int:
-    return int.from_bytes(_member(jwk, name), "big")
+def number_of(jwk: Mapping[str, Any], name: str) -> int:
+    """The number in a member of a JWK."""
+    return int.from_bytes(member_of(jwk, name), "big")
 
 
-def find(keys: Iterable[Key], alg: str, kid: str | None) -> Check | None:
-    """The check under the first key that serves the algorithm and, if a name is given, has this name."""
+def find(keys: Iterable[Key], alg: str, kid: str | None, takes_nameless: bool = False) -> Key | None:
+    """The first key that serves the algorithm and, if a name is given, has this name, or has none where that is enough."""
     for key in keys:
-        if alg in key.checks and (kid is None or kid == key.kid):
-            return key.checks[alg]
+        if alg in key.checks and (kid is None or kid == key.kid or takes_nameless and key.kid is None):
+            return key
     return None

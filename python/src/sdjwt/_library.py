@@ -4,6 +4,7 @@ from __future__ import annotations
 import ctypes
 import os
 import threading
+from collections.abc import Callable
 from ctypes import POINTER, addressof, c_char_p, c_size_t, c_uint8, c_uint32, c_uint64, c_void_p, create_string_buffer
 from pathlib import Path
 from typing import Any
@@ -65,6 +66,10 @@ def _load() -> ctypes.CDLL:
 
 
 _LIBRARY = _load()
+# None in a library that cannot set the nonce of a policy that it has read
+_NONCE = getattr(_LIBRARY, "sdjwt_policy_nonce", None)
+if _NONCE is not None:
+    _NONCE.argtypes, _NONCE.restype = (c_void_p, *_IN), c_uint8
 _FREE = _LIBRARY.sdjwt_policy_free
 _VERIFY = _LIBRARY.sdjwt_policy_verify
 _JUDGE = _LIBRARY.sdjwt_policy_judge
@@ -191,6 +196,13 @@ class Handle:
             room = self._larger(room)
             status = _JUDGE(*asked, room.at, room.size, room.at_len)
         return status, room.text()
+
+    def set_nonce(self, nonce: bytes, policy: Callable[[], bytes]) -> int:
+        """Sets the nonce for the calls that follow. `policy` gives the policy with it, for a library that has to read it anew."""
+        if _NONCE is None:
+            return call("policy_new", addressof(self.held), policy())[0]
+        status: int = _NONCE(self.at, nonce, len(nonce))
+        return status
 
     def _larger(self, room: _Room) -> _Room:
         """A room for what did not fit into this one. It stays the handle's, unless it is too large to be kept."""

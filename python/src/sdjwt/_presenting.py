@@ -9,11 +9,12 @@ import json
 from typing import Any
 
 from sdjwt import _library
-from sdjwt._asking import CheckFunction, Checking, has_other, need_function, read_object
+from sdjwt._asking import AsyncCheckFunction, CheckFunction, Checking, Functions, has_other, need_function, read_object
 from sdjwt._detail import key_set_fault, text_fault
 from sdjwt._errors import Unreadable
 from sdjwt._key_sets import need_a_key, read_set, warn_of_private
 from sdjwt._signing import Signer, signer_of
+from sdjwt._steps import Steps
 
 
 class Presenting:
@@ -21,8 +22,8 @@ class Presenting:
 
     __slots__ = ("_checking", "_signer", "file")
 
-    def __init__(self, order: dict[str, Any], check: CheckFunction | None, signer: Signer | None) -> None:
-        self._checking, self._signer = Checking(check), signer
+    def __init__(self, order: dict[str, Any], check: CheckFunction | AsyncCheckFunction | None, signer: Signer | None) -> None:
+        self._checking, self._signer = Checking(Functions(check)), signer
         if "keys" in order or check is None:
             _need_keys(order)
             issuers = read_set(order, "keys", "", "present order")
@@ -37,23 +38,23 @@ class Presenting:
                 rest["binding"] = {**order["binding"], "alg": signer.alg.decode()}
         self.file = json.dumps(rest).encode()
 
-    def present(self, token: bytes, now: int) -> tuple[int, bytes]:
+    def present(self, token: bytes, now: int) -> Steps[tuple[int, bytes]]:
         """The status, and what is presented or the line."""
         said = _library.UNSAID
         status, answer = _library.call("present_ask", self.file, token, now, said)
         if status == _library.ASKS:
-            said = self._checking.answer(answer)
+            said = (yield from self._checking.answer(answer)).said
             status, answer = _library.call("present_ask", self.file, token, now, said)
         if status != _library.TO_SIGN or self._signer is None:
             return status, answer
-        signature = self._signer.signature(answer)
+        signature = yield from self._signer.signature(answer)
         status, answer = _library.call("present_sign", self.file, token, now, said, signature)
         if status == _library.USAGE:
             raise ValueError("sdjwt: what sign answered has no bytes, and is no signature")
         return status, answer
 
 
-def presenting_of(text: bytes, check: CheckFunction | None, sign: object, alg: object) -> Presenting | None:
+def presenting_of(text: bytes, check: CheckFunction | AsyncCheckFunction | None, sign: object, alg: object) -> Presenting | None:
     """How an order is presented. None where the library does so by itself, with the shared keys of the order."""
     need_function(check)
     is_asked = check is not None or sign is not None

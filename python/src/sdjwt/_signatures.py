@@ -13,7 +13,8 @@ from cryptography.hazmat.primitives.asymmetric.utils import decode_dss_signature
 
 from sdjwt._keys import CURVES, ED25519, RSA, RSA_BITS_MIN, BadKey, Check
 
-_EC: dict[str, tuple[ec.EllipticCurve, hashes.HashAlgorithm]] = {
+# The curves, and the hash that ECDSA takes over each.
+EC: dict[str, tuple[ec.EllipticCurve, hashes.HashAlgorithm]] = {
     "P-256": (ec.SECP256R1(), hashes.SHA256()), "P-384": (ec.SECP384R1(), hashes.SHA384()), "P-521": (ec.SECP521R1(), hashes.SHA512())}
 _HASHES: dict[str, hashes.HashAlgorithm] = {"256": hashes.SHA256(), "384": hashes.SHA384(), "512": hashes.SHA512()}
 # The field of Ed25519, and the y of every point whose order divides 8 (RFC 8032 section 5.1).
@@ -24,7 +25,7 @@ _OF_SMALL_ORDER = (0, 1, _FIELD - 1, _OF_ORDER_8, _FIELD - _OF_ORDER_8)
 
 def ecdsa(curve: str, x: bytes, y: bytes) -> Check:
     """ECDSA. A signature is r and s behind it, each of the length of a coordinate (RFC 7518 section 3.4)."""
-    group, hash_alg = _EC[curve]
+    group, hash_alg = EC[curve]
     try:
         key = ec.EllipticCurvePublicNumbers(int.from_bytes(x, "big"), int.from_bytes(y, "big"), group).public_key()
     except (ValueError, UnsupportedAlgorithm):
@@ -106,11 +107,17 @@ def private_key(key: object) -> SigningKey | None:
     return None
 
 
+def curve_of(key: ec.EllipticCurvePrivateKey | ec.EllipticCurvePublicKey) -> str:
+    """The name that the curve of a key has in a JWK."""
+    for name, (group, _) in EC.items():
+        if group.name == key.curve.name:
+            return name
+    raise BadKey(f"its curve is {key.curve.name}, and has to be one of {', '.join(CURVES)}")
+
+
 def _ec_key(key: ec.EllipticCurvePrivateKey) -> SigningKey:
-    curve = next((curve for curve, (group, _) in _EC.items() if group.name == key.curve.name), None)
-    if curve is None:
-        raise BadKey(f"its curve is {key.curve.name}, and has to be one of {', '.join(CURVES)}")
-    (name, size), scheme = CURVES[curve], ec.ECDSA(_EC[curve][1])
+    curve = curve_of(key)
+    (name, size), scheme = CURVES[curve], ec.ECDSA(EC[curve][1])
 
     def sign(_: str, text: bytes) -> bytes:
         pair = decode_dss_signature(key.sign(text, scheme))
