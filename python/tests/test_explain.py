@@ -41,6 +41,7 @@ def test_each_entry_is_found_by_its_number_its_name_and_its_line():
     assert list(entries) == HEADINGS and len(HEADINGS) > 90
     for heading in HEADINGS:
         assert set(entries[heading]) == {"explanation", "cause", "remedy"} and all(entries[heading].values())
+        assert not any("](" in part or "\n" in part for part in entries[heading].values()), heading
         words = heading.split()
         numbered = [words[1], words[2], " ".join(words[1:]), f"refused {words[1]}"] if words[0] == "refused" else []
         for wanted in (heading, *numbered, " ".join(words[words[0] == "unreadable":])):
