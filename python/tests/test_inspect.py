@@ -210,7 +210,8 @@ def test_claims_are_text_on_the_page_and_never_markup(keys):
     places = [f"/{name}".replace("~", "~0").replace("</script>", "<~1script>") for name in (MARKUP, f"{MARKUP}e", f"{MARKUP}g")]
     token = sdjwt.issue({**order, "hide": [places[0], f"{places[1]}/0", places[2]]})
     shown = Page(page(keys, token))
-    assert [tag for tag, _ in shown.elements] == [tag for tag, _ in plain.elements]
+    # sorted, because digests stand in an order of their own
+    assert sorted(tag for tag, _ in shown.elements) == sorted(tag for tag, _ in plain.elements)
     assert shown.elements.count(("script", {})) == 1 and not shown.with_attribute("onerror") and not shown.with_attribute("src")
     # a salt, a nonce and the like may be anything
     text, digest = disclosure(MARKUP, MARKUP, {MARKUP: [MARKUP]})

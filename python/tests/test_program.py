@@ -223,7 +223,7 @@ def test_a_token_may_be_a_file_an_argument_or_standard_input(ticket, keys):
     for words, given in ((("ticket.txt",), b""), ((ticket,), b""), (("-",), ticket.encode()), ((flat.out,), b""), (("-",), flat.out.encode())):
         assert keys("verify", *words, "--key", "shared.jwk", given=given).json["seat"] == "B12"
         assert keys("convert", "compact", *words, given=given).out.strip() == ticket
-    said = keys("verify", "-", "--key", "-", given=ticket.encode())
+    said = keys("verify", "-", "--key", "-", given=Path("shared.jwk").read_bytes())
     assert (said.status, said.line) == (2, "usage") and "one argument only" in said.err
 
 
@@ -382,9 +382,15 @@ def test_ctrl_c_ends_it_without_a_traceback(ticket):
         # it reads when what it was given is taken
         ran.stdin.write(b"e" * 1_000_000)
         ran.stdin.flush()
-        ran.send_signal(signal.SIGINT)
-        said = ran.stderr.read()
-        assert ran.wait(60) == 130 and b"Traceback" not in said
+        for _ in range(8):
+            # between two reads Python looks at a signal only after the next one
+            ran.send_signal(signal.SIGINT)
+            try:
+                ran.wait(15)
+                break
+            except subprocess.TimeoutExpired:
+                pass
+        assert ran.wait(60) == 130 and b"Traceback" not in ran.stderr.read()
 
 
 def test_without_cryptography_it_says_what_is_missing(ticket, tmp_path):

@@ -83,9 +83,9 @@ def _token(inside: Inside) -> str:
     """The compact token, a colour for each part."""
     bound = [] if inside.binding is None else [("binding", ".".join(inside.binding.jwt.texts))]
     parts = [("header", inside.jwt.texts[0]), ("payload", inside.jwt.texts[1]), ("signature", inside.jwt.texts[2])]
-    shown = "<wbr>.".join(_part(kind, text) for kind, text in parts)
-    shown += "".join(f"<wbr>~{_part('open', one.text)}" for one in inside.disclosures)
-    shown += "<wbr>~" + "".join(_part(kind, text) for kind, text in bound)
+    shown = ".<wbr>".join(_part(kind, text) for kind, text in parts) + "~<wbr>"
+    shown += "".join(f"{_part('open', one.text)}~<wbr>" for one in inside.disclosures)
+    shown += "".join(_part(kind, text) for kind, text in bound)
     legend = [(kind, f"{kind}, {letters(len(text))}") for kind, text in parts]
     legend += [("open", letters(len(inside.disclosures), "disclosure"))] if inside.disclosures else []
     legend += [(kind, f"key binding token, {letters(len(text))}") for kind, text in bound]
@@ -109,7 +109,7 @@ def _joining(inside: Inside) -> str:
     right = [_card(one, numbers, linked) for one in inside.disclosures]
     columns = _tag("div", "column", "\n".join(left)) + _tag("div", "column", "\n".join(right) or _tag("p", "said", "No disclosure."))
     return _section("joining", "What is signed, and what opens it",
-                    "The issuer signed the left side. Each digest there is the hash of one disclosure, or of nothing that is sent. "
+                    "The issuer signed the header and the payload. Each digest is the hash of a disclosure, or of nothing that is sent. "
                     "A line leads from each disclosure to the place of its claim.",
                     f'<div class="join"><svg class="lines" aria-hidden="true"></svg>{columns}</div>')
 
@@ -126,10 +126,17 @@ def _card(one: Disclosure, numbers: dict[str, int], linked: set[int]) -> str:
         name = "an element of an array" if one.name is None else f"<b>{_escaped(json_text(one.name))}</b>"
         body = _tag("p", "claim", f"{name} is") + _json(one.value, numbers, linked)
     place = "It fits no digest of this token." if one.place is None else f"Place: <code>{_escaped(one.place)}</code>"
-    digest = f'<a class="digest" href="#site-{one.number}">{_escaped(one.digest)}</a>' if one.digest else "of a hash that is not known"
-    facts = f"{place}<br>Salt: <code>{_cut(value_text(one.salt))}</code><br>Digest: {digest}"
+    facts = f"{place}<br>Salt: <code>{_cut(value_text(one.salt))}</code><br>Digest: {_digest(one)}"
     return (f'<article class="card" id="disclosure-{one.number}" data-disclosure="{one.number}">'
             f"<h3>Disclosure {one.number} <small>{letters(len(one.text))}</small></h3>{body}{_tag('p', 'facts', facts)}</article>")
+
+
+def _digest(one: Disclosure) -> str:
+    """The digest of a disclosure, which leads to its place."""
+    if not one.digest:
+        return "by a hash that is not known"
+    text = _escaped(one.digest)
+    return _tag("span", "digest", text) if one.place is None else f'<a class="digest joined" href="#site-{one.number}">{text}</a>'
 
 
 def _json(value: Any, numbers: dict[str, int], linked: set[int]) -> str:
