@@ -60,13 +60,18 @@ def _focused(page: Page) -> str:
 
 def _tab_to(page: Page, wanted: str) -> None:
     """Presses Tab until the element with this id, or this text, has the focus."""
-    for _ in range(80):
+    for _ in range(120):
         if _focused(page) == wanted:
             outline = page.get("getComputedStyle(document.activeElement).outlineStyle")
             assert outline != "none", f"the focus on {wanted} is not seen"
             return
         page.press("Tab")
     raise AssertionError(f"no Tab leads to {wanted}")
+
+
+def _fill(page: Page, field: str, text: str) -> None:
+    page.get(f"document.getElementById('{field}').focus(), document.getElementById('{field}').select()")
+    page.type(text)
 
 
 def _press(page: Page, button: str) -> None:
@@ -79,6 +84,7 @@ def _verdict(page: Page, title: str, button: str = "Check the ticket") -> None:
     page.get("document.querySelector('#verdict').replaceChildren()")
     _press(page, button)
     found = page.wait(VERDICT)
+    page.wait("!document.getElementById('admit').hasAttribute('aria-busy')")
     assert found[2:] == title and found[0] == ("✓" if title.startswith("Admitted") else "✕"), found
 
 
@@ -138,10 +144,8 @@ def _wrong_hands(page: Page) -> None:
 
 def _typed(page: Page) -> None:
     """What was typed stays if the office refuses it, and if the page is loaded again; so does what was shown last."""
-    page.get("document.getElementById('seat').select()")
-    page.type("C7")
-    page.get("document.getElementById('name').select()")
-    page.type(" ")
+    _fill(page, "seat", "C7")
+    _fill(page, "name", " ")
     _press(page, "Issue a ticket to Ada")
     page.wait("document.getElementById('name').getAttribute('aria-invalid')")
     assert _focused(page) == "name"
@@ -160,8 +164,7 @@ def _typed(page: Page) -> None:
 
 def _markup(page: Page) -> None:
     """A name with markup is text at each end."""
-    page.get("document.getElementById('name').select()")
-    page.type(MARKUP)
+    _fill(page, "name", MARKUP)
     _issue(page)
     _tab_to(page, "choice/name")
     page.press(" ")

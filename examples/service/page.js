@@ -114,8 +114,9 @@ function chosenTicket() {
 
 const textOf = (view, pointer) => view.claims.find((row) => row.pointer === pointer)?.text ?? "?";
 
-async function drawTickets(chosen) {
+async function drawTickets(wanted) {
   const kept = wallet.tickets(office);
+  const chosen = kept.includes(wanted) ? wanted : kept[0];
   const cards = [];
   for (const [index, ticket] of kept.entries()) {
     const view = await viewOf(ticket);
@@ -128,7 +129,7 @@ async function drawTickets(chosen) {
   }
   const nothing = make("p", { class: "nothing" }, "No ticket yet. Get one at the office.");
   find("tickets").replaceChildren(find("tickets").querySelector("legend"), ...(cards.length ? cards : [nothing]));
-  await drawTicket(kept.includes(chosen) ? chosen : undefined);
+  await drawTicket(chosen);
 }
 
 // Of the chosen ticket what Ada may show, and what is in each presentation of it.

@@ -15,9 +15,10 @@ import sdjwt
 
 LONGEST = 64 * 1024
 DEEPEST = 20
+# The claims that have a name for a person, in the order of the display. The digests in a token are in no order.
 LABELS = {
-    "name": "Name", "seat": "Seat", "birthdate": "Date of birth", "over_18": "Over 18", "over_65": "Over 65",
-    "event": "Event", "iss": "Issued by", "exp": "Valid until", "cnf": "Belongs to the key"}
+    "event": "Event", "name": "Name", "seat": "Seat", "birthdate": "Date of birth", "over_18": "Over 18",
+    "over_65": "Over 65", "exp": "Valid until", "iss": "Issued by", "cnf": "Belongs to the key"}
 Row = dict[str, Any]
 
 
@@ -30,10 +31,15 @@ def view_of(token: str) -> dict[str, Any] | None:
     rows = list(_Opening(inside["disclosures"]).rows(inside["payload"], ()))
     return {
         "kid": str(inside["header"].get("kid", "")),
-        "claims": [row for row in rows if row["state"] != "hidden"],
+        "claims": sorted((row for row in rows if row["state"] != "hidden"), key=_rank),
         "hidden": [row["digest"] for row in rows if row["state"] == "hidden"],
         "binding": _binding(inside["binding"]),
         "parts": list(_parts(inside, parts))}
+
+
+def _rank(row: Row) -> int:
+    name = row["pointer"][1:].partition("/")[0]
+    return list(LABELS).index(name) if name in LABELS else len(LABELS)
 
 
 class _Opening:
