@@ -61,8 +61,8 @@ for standard in c99 c11 c17; do
 done
 cp "$made/alone.c" "$made/alone.cpp"
 if has "$CXX"; then
-    run "$CXX" -std=c++11 -Wall -Wextra -Wpedantic -Wmissing-field-initializers -Wzero-as-null-pointer-constant -Werror \
-        -I"$here/out/include" -c -o "$made/alone.o" "$made/alone.cpp"
+    run "$CXX" -std=c++11 -Wall -Wextra -Wpedantic -Wmissing-field-initializers -Wzero-as-null-pointer-constant \
+        -Werror -I"$here/out/include" -c -o "$made/alone.o" "$made/alone.cpp"
 else
     skip "the header in C++ (no $CXX)"
 fi

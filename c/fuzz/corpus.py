@@ -4,11 +4,11 @@
     python3 c/fuzz/corpus.py FOLDER           writes them to FOLDER/CALL, a file each
     python3 c/fuzz/corpus.py --keep FOLDER    puts those of FOLDER/CALL into found.tar.xz, for each call that is there
 
-Each run of a vector of vectors/ is an input: the files that it reads, with a zero byte between two. One of verify is one
-of judge too, with what is said of the signatures, and one of nonce. The parts of a question are those of a few. What an earlier run keeps is found by tests/reference. To these come
-cases that tests/fuzz.py and tests/library.py grow. Runs of other commands, of files that are not there, of files with a
-zero byte, and of more than 16 KiB are left out. found.tar.xz has what a fuzzer found beside these: texts that reach
-other code.
+Each run of a vector of vectors/ is an input: the files that it reads, with a zero byte between two. One of verify is
+one of judge too, with what is said of the signatures, and one of nonce. The parts of a question are taken of QUESTIONS.
+What an earlier run keeps is found by tests/reference. To these come cases that tests/fuzz.py and tests/library.py grow.
+Runs of other commands, of files that are not there, of files with a zero byte, and of more than 16 KiB are left out.
+found.tar.xz has what a fuzzer found beside these: texts that reach other code.
 """
 import hashlib
 import io
@@ -33,7 +33,8 @@ ALL_CALLS = (*CALLS, *OF_CALLERS.values(), "policy", "nonce", "part")
 # Questions, and bytes that are none.
 QUESTIONS = (
     b'{"alg":"ES256","ask":"issuer","kid":"k","signature":"AAEC","text":"eyJhbGciOiJFUzI1NiJ9.e30"}\n',
-    b'{"alg":"ES256","ask":"holder","signature":"AA","text":"a.b","typ":"kb+jwt","payload":{"cnf":{"jwk":{"x":"A"}},"text":1}}\n',
+    b'{"alg":"ES256","ask":"holder","signature":"AA","text":"a.b","typ":"kb+jwt",'
+    b'"payload":{"cnf":{"jwk":{"x":"A"}},"text":1}}\n',
     b'{"alg":"\\u00e9\\"","kid":null,"signature":"A=","text":[]}', b"notAsked\n", b"[1]", b'{"text":1.5}', b"")
 POINTERS = (b"/payload/cnf/jwk/x", b"/a~1b/0", b"text", b"")
 GROWN = 200

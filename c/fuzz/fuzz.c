@@ -1,15 +1,15 @@
 /*
  * Fuzzes one call of the C library, by libFuzzer: c/fuzz/run.sh builds it and tells how.
  *
- * The environment's SDJWT_FUZZ names the call: verify, judge, present, issue, ask, sign, step, sent, show, split, convert,
- * audit, wallet, policy, nonce or part. An input is the files of the call, with a zero byte between two: what stands for
- * its order, policy or query, then its tokens; for ask and sign the name of the algorithm, the seed and the signature;
- * for judge the algorithms, the token and two words on signatures, for step one word, which are lengths; for sent the
- * holder's signature; for nonce the policy, the token and the nonce; for part the question, a pointer, and which part it
- * is, which is a length. Each comes to the call in memory of its own and of just its length. What the header promises of
- * an answer is checked: its status, its length, the bytes behind it, and that a call with just as much room answers the
- * same. A call may take a second of the processor, and at one time 64 MiB of memory. Two calls take more, by which
- * c/fuzz/run.sh sees that this is told: slow and large.
+ * The environment's SDJWT_FUZZ names the call: verify, judge, present, issue, ask, sign, step, sent, show, split,
+ * convert, audit, wallet, policy, nonce or part. An input is the files of the call, with a zero byte between two: what
+ * stands for its order, policy or query, then its tokens; for ask and sign the name of the algorithm, the seed and the
+ * signature; for judge the algorithms, the token and two words on signatures, for step one word, which are lengths; for
+ * sent the holder's signature; for nonce the policy, the token and the nonce; for part the question, a pointer, and
+ * which part it is, which is a length. Each comes to the call in memory of its own and of just its length. What the
+ * header promises of an answer is checked: its status, its length, the bytes behind it, and that a call with just as
+ * much room answers the same. A call may take a second of the processor, and at one time 64 MiB of memory. Two calls
+ * take more, by which c/fuzz/run.sh sees that this is told: slow and large.
  */
 #include "sdjwt.h"
 
@@ -303,7 +303,8 @@ static sdjwt_status with_room(const input *given, size_t room, uint8_t **out, si
         check(*len == 0, "nothing was written, and its length is not 0");
     }
     for (size_t i = written; i < room + SPARE; i++) {
-        check((*out)[i] == 0xa5 || chosen == call_policy || chosen == call_nonce, "a byte behind the answer is another one");
+        check((*out)[i] == 0xa5 || chosen == call_policy || chosen == call_nonce,
+              "a byte behind the answer is another one");
     }
     return status;
 }

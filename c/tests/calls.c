@@ -455,7 +455,8 @@ static void presenting(void) {
  * question about its holder's signature.
  */
 #define HOLDERS_TEXT "eyJhbGciOiJIUzI1NiIsInR5cCI6ImtiK2p3dCJ9." \
-    "eyJhdWQiOiJ2IiwiaWF0IjowLCJub25jZSI6Im0iLCJzZF9oYXNoIjoiZFY0aWVGZTc2OFpKeC00LXNCRTQ4dFJyQjhKTko3S19ET0I5YjFLdENPUSJ9"
+    "eyJhdWQiOiJ2IiwiaWF0IjowLCJub25jZSI6Im0iLCJzZF9oYXNoIjoi" \
+    "ZFY0aWVGZTc2OFpKeC00LXNCRTQ4dFJyQjhKTko3S19ET0I5YjFLdENPUSJ9"
 #define NAMES_SHOWN "eyJhbGciOiJIUzI1NiJ9.eyJzaWduYXR1cmUiOiJaWiIsInRleHQiOiJubyJ9.AA~" HOLDERS_TEXT ".AA"
 #define NAMES_QUESTION "{\"alg\":\"HS256\",\"ask\":\"holder\",\"signature\":\"AA\",\"text\":\"" HOLDERS_TEXT "\"," \
     "\"typ\":\"kb+jwt\",\"payload\":{\"signature\":\"ZZ\",\"text\":\"no\"}}\n"
@@ -581,7 +582,8 @@ static void nonces(void) {
     size_t len;
     pthread_t thread;
     memset(long_nonce, 'm', sizeof long_nonce);
-    CHECK(sdjwt_policy_new(&handle, (const uint8_t *)DOOR(""), strlen(DOOR("")), out, 0, &len) == SDJWT_DONE, "a policy");
+    CHECK(sdjwt_policy_new(&handle, (const uint8_t *)DOOR(""), strlen(DOOR("")), out, 0, &len) == SDJWT_DONE,
+          "a policy");
     CHECK(sdjwt_policy_new(&unbound, (const uint8_t *)judged_policy, strlen(judged_policy), out, 0, &len) == SDJWT_DONE,
           "one without a binding");
     CHECK(set_nonce(&none, "m", 1) == SDJWT_USAGE && none.held == NULL, "no policy");

@@ -105,14 +105,15 @@ static sdjwt_status ask_to_present(int is_signed, uint8_t said, struct text *out
 
 /* The calls. Those of a handle stand together, with its policy read first. */
 enum {
-    ISSUE, PRESENT, VERIFY, REFUSED_VERIFY, SHOW, SPLIT, CONVERT, AUDIT, WALLET, POLICY_NEW, POLICY_VERIFY, POLICY_NONCE,
-    JUDGE_ASKS, JUDGE, ISSUE_ASK, ISSUE_SIGN, PRESENT_ASKS, PRESENT_ASK, PRESENT_SIGN, QUESTION_TEXT, QUESTION_SIGNATURE,
-    QUESTION_ALG, QUESTION_KID, QUESTION_AT, CALLS
+    ISSUE, PRESENT, VERIFY, REFUSED_VERIFY, SHOW, SPLIT, CONVERT, AUDIT, WALLET,
+    POLICY_NEW, POLICY_VERIFY, POLICY_NONCE,
+    JUDGE_ASKS, JUDGE, ISSUE_ASK, ISSUE_SIGN, PRESENT_ASKS, PRESENT_ASK, PRESENT_SIGN,
+    QUESTION_TEXT, QUESTION_SIGNATURE, QUESTION_ALG, QUESTION_KID, QUESTION_AT, CALLS
 };
 
 /* A part of the question that JUDGE_ASKS wrote. */
 static sdjwt_status take(int which, struct text *out) {
-    static const char place[] = "/a~1b";
+    static const char place[] = "/a~1b", other[] = "{\"a/b\":\"c\"}";
     const uint8_t *asked = question.bytes;
     switch (which) {
     case QUESTION_TEXT: return sdjwt_question_text(asked, question.len, out->bytes, ROOM, &out->len);
@@ -120,8 +121,8 @@ static sdjwt_status take(int which, struct text *out) {
     case QUESTION_ALG: return sdjwt_question_alg(asked, question.len, out->bytes, ROOM, &out->len);
     case QUESTION_KID: return sdjwt_question_kid(asked, question.len, out->bytes, ROOM, &out->len);
     default:
-        return sdjwt_question_at((const uint8_t *)"{\"a/b\":\"c\"}", 11, (const uint8_t *)place, strlen(place), out->bytes,
-                                 ROOM, &out->len);
+        return sdjwt_question_at((const uint8_t *)other, strlen(other), (const uint8_t *)place, strlen(place),
+                                 out->bytes, ROOM, &out->len);
     }
 }
 
