@@ -1,5 +1,6 @@
 // Keys of others by WebCrypto: which key of a set checks a signature, and signatures by a private key.
 import { webcrypto } from 'node:crypto'
+import { types } from 'node:util'
 
 const { subtle } = webcrypto
 
@@ -26,12 +27,17 @@ function parametersOf(alg) {
   return undefined
 }
 
+/** One name for an algorithm that has two: of keys of Ed25519, EdDSA (RFC 8037) and Ed25519 (RFC 9864) are the same. */
+function named(alg) {
+  return alg === 'EdDSA' ? 'Ed25519' : alg
+}
+
 /** Whether a JWK may check signatures of an algorithm: by its type, and by what it says of itself (RFC 7517 section 4). */
 function fits(jwk, alg, parameters) {
   return jwk !== null && typeof jwk === 'object' && jwk.kty === parameters.kty &&
     (parameters.crv === undefined || jwk.crv === parameters.crv) &&
     (jwk.use === undefined || jwk.use === 'sig') &&
-    (jwk.alg === undefined || jwk.alg === alg) &&
+    (jwk.alg === undefined || named(jwk.alg) === named(alg)) &&
     (jwk.key_ops === undefined || (Array.isArray(jwk.key_ops) && jwk.key_ops.includes('verify')))
 }
 
@@ -108,7 +114,7 @@ export async function signerOf(sign, alg) {
     if (typeof alg !== 'string') throw new TypeError('alg is missing: the name of the algorithm of your function')
     return { alg, sign }
   }
-  const key = sign instanceof webcrypto.CryptoKey ? sign : await privateKey(sign, alg)
+  const key = types.isCryptoKey(sign) ? sign : await privateKey(sign, alg)
   const named = alg ?? algOf(key)
   const parameters = named === undefined ? undefined : parametersOf(named)
   if (parameters === undefined || parameters.kty === 'oct') throw new TypeError(`the key does not sign by ${named}`)
