@@ -143,7 +143,6 @@ export async function audit(order, token) {
 export async function wallet(query, tokens) {
   const files = Array.from(tokens, (token, at) => bytesOf(`token ${at}`, token))
   if (files.length < 1 || files.length > 64) throw new RangeError(`there are ${files.length} tokens, and not 1 to 64`)
-  if (files.some((file) => file.length === 0)) throw new RangeError('a token is empty')
   const said = await text(call(OP.wallet, [bytesOf('query', query), ...files]))
   const [picked, token] = said.split('\n')
   return { index: Number(picked.slice('credential '.length)), token }

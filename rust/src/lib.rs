@@ -31,7 +31,7 @@
 //!
 //! # Key pairs
 //!
-//! With ES256, EdDSA and other key pairs you check and make the signatures, by the library that has your keys:
+//! With ES256, `EdDSA` and other key pairs you check and make the signatures, by the library that has your keys:
 //! [`Policy::verify_with`], [`issue_with`] and [`present_with`] call a function of yours with the text and the signature.
 //!
 //! # Errors
@@ -41,7 +41,8 @@
 mod call;
 mod claims;
 mod error;
-#[allow(unsafe_code)]
+// A room is used up by its call.
+#[allow(unsafe_code, clippy::needless_pass_by_value)]
 mod ffi;
 mod issuing;
 mod policy;

@@ -7,7 +7,7 @@ use crate::ffi;
 /// The most tokens of a call of [`wallet`].
 pub const TOKENS_MAX: usize = 64;
 
-const COUNT: &str = "there are no tokens, more than 64, or an empty one";
+const COUNT: &str = "there are no tokens, or more than 64";
 
 /// A token that answers a query.
 #[derive(Clone, Debug, PartialEq, Eq)]

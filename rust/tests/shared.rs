@@ -73,8 +73,8 @@ fn nonces_at_the_limit() {
 
 #[test]
 fn bytes_that_are_no_token() {
-    let door = door("n");
-    for token in [&b""[..], b"\0", b"\xff\xfe", b"{}", b"[", b"a.b.c", b"~", &[b'A'; 70_000]] {
+    let (door, long) = (door("n"), vec![b'A'; 70_000]);
+    for token in [&b""[..], b"\0", b"\xff\xfe", b"{}", b"[", b"a.b.c", b"~", &long] {
         for result in [
             door.verify(token, 0).map(sdjwt::Claims::into_string),
             door.verify_with(token, 0, &["ES256"], |_| panic!("asked")).map(sdjwt::Claims::into_string),
@@ -95,7 +95,7 @@ fn errors_say_what_is_wrong() {
     assert_eq!((unreadable.input(), unreadable.reason()), (1, "notJson"));
     let error = sdjwt::present(format!(r#"{{"keys": {}, "want": ["/a b"]}}"#, key_set()), ticket("B12"), 0).unwrap_err();
     let refused = error.refused().unwrap();
-    assert_eq!((refused.number(), refused.name(), refused.place()), (72, "wantMissing", Some("0")));
+    assert_eq!((refused.number(), refused.name(), refused.place()), (72, "wantedNotThere", Some("0")));
     assert!(std::error::Error::source(&error).is_some());
 }
 
@@ -114,10 +114,11 @@ fn wallets() {
     assert!(picked.token.ends_with('~'));
     let none: [&str; 0] = [];
     assert!(matches!(sdjwt::wallet(&query, &none), Err(Error::Misused(_))));
-    assert!(matches!(sdjwt::wallet(&query, &[""]), Err(Error::Misused(_))));
     assert!(matches!(sdjwt::wallet(&query, &vec![ticket("A1"); 65]), Err(Error::Misused(_))));
-    let error = sdjwt::wallet(&query, &[ticket("A1")]).unwrap_err();
-    assert_eq!(error.refused().map(sdjwt::Refused::number), Some(77));
+    for tokens in [vec![ticket("A1")], vec![String::new()], vec![String::new(), "~".to_owned()]] {
+        let error = sdjwt::wallet(&query, &tokens).unwrap_err();
+        assert_eq!(error.refused().map(sdjwt::Refused::number), Some(77));
+    }
 }
 
 #[test]
