@@ -8,8 +8,8 @@ wherever a document, a script, a test or a vector says them; docs/SPECIFICATION.
 the Python package and tests/reference have each. The limits are those of `Limits` of sd_outside, the words of commands
 those of `Command`, `Forms` and the tools, and the members of files those of their tables. A name of code in a page for
 whoever reads the code (OF_CODE) stands in the code, and so does the code that LIBRARY.md and C.md show. The crates of
-whose calls LIBRARY.md has a table are handed on by sdjwt_lib. Each link leads to a file that is there, and to a heading
-of it, and from docs/ to what a release has too.
+whose calls LIBRARY.md has a table are handed on by sdjwt_lib. docs/links.py
+checks the links.
 """
 import json
 import re
@@ -44,9 +44,6 @@ TABLES = [
     ("Query", "a query", "wallet_core", "QueryFile", "query_table"),
     ("Policy", "a policy", "verifier_core", "PolicyFile", "policy_table"),
 ]
-# What a release has beside docs/.
-RELEASED = ("../CHANGELOG.md", "../c/sdjwt.h", "../python/README.md", "../vectors/README.md")
-RELEASED += ("../c/examples/public.c", "../c/examples/signed.c")
 # Where numbers of refusals are said besides pages.
 FOLDERS = ("c", "completions", "crates/sd_vectors/data", "docs", "examples", "python", "tests", "vectors")
 SUFFIXES = (".bash", ".c", ".h", ".json", ".md", ".py", ".rows", ".sh", ".txt", ".1", "")
@@ -85,8 +82,8 @@ def check_numbers():
     for no, name in names.items():
         if said.get(no) != name:
             yield f"SPECIFICATION.md has no row of {no} {name}"
-    entries = re.findall(r"^- \*\*refused (\d+) (\w+)\*\*: ", text_of("docs/REFUSALS.md"), re.M)
-    if [(int(no), name) for no, name in entries] != sorted(names.items()):
+    entries = re.findall(r'^### refused (\d+) (\w+) <a id="(\d+)"></a>$', text_of("docs/REFUSALS.md"), re.M)
+    if [(int(no), name) for no, name, anchor in entries if no == anchor] != sorted(names.items()):
         yield "the entries of REFUSALS.md are not the numbers and names of specs/"
     lines = [line.split() for line in json.loads(text_of("python/src/sdjwt/refusals.json")) if line[:8] == "refused "]
     if [(int(no), name) for _, no, name in lines] != sorted(names.items()):
@@ -114,7 +111,7 @@ def check_ranges():
     """Whether the sections of REFUSALS.md, and the ranges of manual pages, are those of the entries in them."""
     known = set()
     for section in re.split(r"^## ", text_of("docs/REFUSALS.md"), flags=re.M)[1:]:
-        inside = [int(no) for no in re.findall(r"^- \*\*refused (\d+) ", section, re.M)]
+        inside = [int(no) for no in re.findall(r"^### refused (\d+) ", section, re.M)]
         said = [int(no) for no in re.findall(r"\d+", section.split("\n")[0].split(": ")[-1])] if inside else []
         known.add((said[0], said[-1]) if said else ())
         if inside and [said[0], said[-1]] != [inside[0], inside[-1]]:
@@ -204,7 +201,7 @@ def check_code():
 
     files = [path for path in (TOP / "crates").glob("*/*/**/*.*t") if path.suffix in (".rt", ".antt")]
     of_c = [plain(path.read_text(encoding="utf-8")) for path in (TOP / "c/examples").glob("*.c")]
-    shown = [("docs/LIBRARY.md", "(?:rust)?", [plain(path.read_text(encoding="utf-8")) for path in files])]
+    shown = [("docs/LIBRARY.md", "(?:rust|antt)", [plain(path.read_text(encoding="utf-8")) for path in files])]
     for page, language, sources in [*shown, ("docs/C.md", "c", of_c)]:
         for piece in pieces(page, language):
             if not piece.startswith("#include") and not any(plain(piece) in source for source in sources):
@@ -225,28 +222,8 @@ def check_handed_on():
         yield from (f"{file} of sdjwt_lib does not hand on {name}" for name in sorted(named - found))
 
 
-def anchors(page):
-    """The names by which links call the headings of a page."""
-    text = re.sub(r"^```.*?^```", "", page.read_text(encoding="utf-8"), flags=re.M | re.S)
-    headings = re.findall(r"^#+ (.*)$", text, re.M)
-    return {re.sub(r"[^\w\- ]", "", heading.lower()).replace(" ", "-") for heading in headings}
-
-
-def check_links():
-    for page in [*TOP.glob("*.md"), *TOP.glob("docs/*.md"), *TOP.glob("*/README.md")]:
-        text = re.sub(r"^```.*?^```", "", page.read_text(encoding="utf-8"), flags=re.M | re.S)
-        for link, _, anchor in re.findall(r"\]\(([^)#\s]*)(#([^)\s]+))?\)", text):
-            target = page.parent / link if link else page
-            if not re.match(r"[a-z]+:", link):
-                if not target.exists() or anchor and anchor not in anchors(target):
-                    yield f"{page.relative_to(TOP)} has a link that leads nowhere: {link}{'#' * bool(anchor)}{anchor}"
-                elif page.parent.name == "docs" and link.startswith("../") and link not in RELEASED:
-                    yield f"{page.relative_to(TOP)} has a link to what is in no release: {link}"
-
-
 def main():
-    checks = (check_numbers, check_limits, check_words, check_members, check_names, check_code, check_handed_on,
-              check_links)
+    checks = (check_numbers, check_limits, check_words, check_members, check_names, check_code, check_handed_on)
     wrong = [line for check in checks for line in check()]
     counts = f"{len(rows())} numbers, {len(limits())} limits"
     print("\n".join(wrong) or f"documents, completions and manual pages agree with specs/: {counts}")

@@ -20,8 +20,8 @@ def read_crates():
 
 
 def check_picture(text, stands_on):
-    picture = re.search(r"^```\n(.*?)^```", text, re.M | re.S).group(1)
-    said = re.search(r"that the picture leaves out:(.*?)\n\n", text, re.S).group(1)
+    picture = re.search(r"^```text\n(.*?)^```", text, re.M | re.S).group(1)
+    said = re.search(r"that the picture leaves out:\n\n(.*?)\n\n", text, re.S).group(1)
     left_out = set(re.findall(r"`(\w+)`", said)) & set(stands_on)
     line_of = {}
     for number, line in enumerate(picture.split("\n")):

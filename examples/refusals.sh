@@ -62,14 +62,14 @@ in_cases() {
 on_page() {
     # shellcheck disable=SC2016 # the marks of a text
     sed -n '
-        s/^- \*\*refused \([0-9]* [A-Za-z]*\)\*\*: .*/\1/p
-        s/^- \*\*unreadable \([a-zA-Z_ ]*\)\*\*: .*/6 \1/p
+        s/^### refused \([0-9]* [A-Za-z]*\) <a id="[0-9]*"><\/a>$/\1/p
+        s/^### unreadable \([a-zA-Z_ ]*\)$/6 \1/p
         s/^| `\([a-zA-Z_ ]*\)` |.*|.*|.*|$/6 \1/p
-        s/^- \*\*usage\*\*: .*/2 usage/p
-        s/^- \*\*unread\*\*: .*/3 unread/p
-        s/^- \*\*unwritten\*\*: .*/4 unwritten/p
-        s/^- \*\*memory\*\*: .*/5 memory/p
-        s/^- \*\*notAsked\*\*: .*/8 notAsked/p' ../docs/REFUSALS.md
+        s/^### usage$/2 usage/p
+        s/^### unread$/3 unread/p
+        s/^### unwritten$/4 unwritten/p
+        s/^### memory$/5 memory/p
+        s/^### notAsked$/8 notAsked/p' ../docs/REFUSALS.md
 }
 
 # The numbers and the names of a table that gives both to each constructor.

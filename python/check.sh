@@ -6,7 +6,7 @@
 #   sh python/check.sh --install     what is missing is installed from Debian's packages first, for /usr/bin/python3, which
 #                                    is then used; what would be skipped is a failure
 #
-# pytest, mypy, selenium and the implementations that it is held against, jwcrypto and joserfc, are those of the
+# pytest, mypy and the implementations that it is held against, jwcrypto and joserfc, are those of the
 # interpreter: python3, or the one that PYTHON names.
 set -eu
 
@@ -21,7 +21,7 @@ export SDJWT_PEERS='jwcrypto joserfc'
 without=
 if [ "$install" = yes ]; then
     PYTHON=/usr/bin/python3
-    packages='python3-venv python3-pip python3-pytest python3-cryptography python3-jwcrypto mypy python3-selenium chromium-driver'
+    packages='python3-venv python3-pip python3-pytest python3-cryptography python3-jwcrypto mypy chromium'
     if apt-cache show python3-joserfc >/dev/null 2>&1; then
         packages="$packages python3-joserfc"
     else
@@ -80,14 +80,10 @@ if has mypy; then
 else
     skip 'the types (no mypy)'
 fi
-if [ "$install" = yes ]; then
-    run "$python" "$here/../examples/service/check.py" --browser
-else
-    run "$python" "$here/../examples/service/check.py" >service
-    cat service
-    browser=$(sed -n 's/^skipped: //p' service)
-    [ -z "$browser" ] || skip "$browser"
-fi
+run "$python" "$here/../examples/service/check.py" --browser >service
+cat service
+without_service=$(sed -n 's/^skipped: //p' service)
+[ -z "$without_service" ] || skip "$without_service"
 case $("$python" -c 'import sdjwt; print(sdjwt.proved)') in
     True) proved= ;;
     False) proved=', of a library that is not proved' ;;

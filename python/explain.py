@@ -28,9 +28,11 @@ INSTALLED = HERE.parent / "share/sdjwt"
 IS_INSTALLED = INSTALLED.is_dir() and HERE.name == "bin"
 PAGE = INSTALLED / "REFUSALS.md" if IS_INSTALLED else HERE.parent / "docs/REFUSALS.md"
 CASES = HERE.parent / "examples/refusals/cases.txt"
-# An entry of the page, and what stands between its parts.
-ENTRY = r"^- \*\*([\w ]+)\*\*: (.*(?:\n  .*)*)$|^\| `([A-Za-z_ ]+)` \| ([^|]+) \| ([^|]+) \| ([^|]+) \|$"
-MARKS = r" \*(?:Cause|Remedy):\* "
+# An entry of the page: a heading with the lines below it, or a row of a table. Then the marks between its parts, and what
+# is dropped from them: the mark of an element of a list, and the target of a link.
+ENTRY = r"^### ([\w ]+?)(?: <a .*)?\n((?:(?!#).*\n)*)|^\| `([A-Za-z_ ]+)` \| ([^|]+) \| ([^|]+) \| ([^|]+) \|$"
+MARKS = r"\n- \*(?:Cause|Remedy):\* "
+DROPPED = r"^ +- |\[([^]]*)\]\([^)]*\)"
 # A row of the table of the commands: its words, and what is printed.
 COMMAND = r"^\| `(sdjwt\w* [\w .]+)` \| ([^|\n]+) \|$"
 
@@ -67,11 +69,12 @@ def lines_of(stream):
 
 def sections(page):
     """What each entry says, each part in one line, by what it explains: `refused 10 badSignature`, `unreadable notJson` or
-    `usage`. An entry is an element of a list, or a row of the table of the reasons why a file is unreadable."""
+    `usage`. An entry is a heading with the lines below it, or a row of the table of the reasons why a file is unreadable."""
     found = {}
     for heading, body, reason, *cells in re.findall(ENTRY, page, re.M):
-        texts = [f"{cell[0].upper()}{cell[1:]}." for cell in cells] if reason else re.split(MARKS, " ".join(body.split()))
-        found[heading or "unreadable " + reason] = dict(zip(PARTS.values(), texts))
+        lines = re.sub(DROPPED, r"\1", body, flags=re.M)
+        parts = [f"{cell[0].upper()}{cell[1:]}." for cell in cells] if reason else re.split(MARKS, lines)
+        found[heading or "unreadable " + reason] = {of: " ".join(part.split()) for of, part in zip(PARTS.values(), parts)}
     return found
 
 

@@ -137,7 +137,7 @@ holds 'sdjwt.pc has the version' version_in_pc
 # The first lines of README.md and of the archive's tell a file that was changed on the way.
 sums_by_readme() {
     mkdir "$made/changed" && cp "$out"/* "$made/changed/" &&
-        line=$(sed -n 's/^    \(sha256sum .*\)/\1/p' "$1") && [ -n "$line" ] &&
+        line=$(sed -n 's/^ *\(sha256sum .*\)/\1/p' "$1") && [ -n "$line" ] &&
         (cd "$made/changed" && sh -c "$line") && rm "$made"/changed/*.whl && (cd "$made/changed" && sh -c "$line") &&
         echo >>"$(echo "$made"/changed/sdjwt-*.tar.gz)" && ! (cd "$made/changed" && sh -c "$line") &&
         rm -r "$made/changed" && echo "$line"
@@ -299,27 +299,39 @@ if [ "$bare_made" = yes ]; then
         /srv/venv/bin/pip install --no-index --disable-pip-version-check /srv/files/*.whl'
     python_package wheel /srv/venv/bin/python /srv/venv
 
-    # The first lines of the repository's README.md: three for the archive, one for the package and one for the wheel.
-    awk '/^## / { on = $0 == "## Install"; next } on && sub(/^    (sudo )?/, "")' "$top/README.md" |
-        sed "s/$version/$whole/g" >"$made/lines"
-    [ "$(wc -l <"$made/lines")" -eq 5 ] || failed 'README.md has not five lines under "Install"'
-    head -n 3 "$made/lines" >"$bare/srv/unpack"
-    tail -n 2 "$made/lines" >"$bare/srv/install"
+    # The blocks of the repository's README.md under "Install". What needs an index of packages is left out: the line of
+    # cryptography. A line that ends in another folder makes it below /root, which is removed.
+    block() {
+        awk -v heading="### $1" '/^##/ { on = $0 == heading } /^```/ { code = !code; next }
+            on && code && !/cryptography/ { sub(/^sudo /, ""); print }' "$top/README.md" | sed "s/$version/$whole/g"
+    }
+    block Archive >"$bare/srv/archive"
+    block 'Debian packages' | sed 's/apt install/dpkg -i/' >"$bare/srv/debian"
+    block 'Python wheel' >"$bare/srv/wheel"
+    for name in archive debian wheel; do
+        [ "$(wc -l <"$bare/srv/$name")" -ge 2 ] || failed "README.md has no commands for $name under \"Install\""
+    done
     # shellcheck disable=SC2016 # the words of the other shell
     holds 'README.md: from the archive' inside 'cd /srv/files
-        . /srv/unpack
+        . /srv/archive
+        cat order.json >/dev/null
         cd /srv/repository
         python3 examples/walk.py "$(command -v sdjwt)" >/dev/null
-        command -v sdjwt'
+        command -v sdjwt
+        rm -r ~/walk'
     # shellcheck disable=SC2016
-    holds 'README.md: the package and the wheel' inside 'python3 -m venv /srv/readme
-        export PATH=/srv/readme/bin:$PATH PIP_NO_INDEX=1 PIP_DISABLE_PIP_VERSION_CHECK=1
+    holds 'README.md: the packages' inside 'cd /srv/files
+        . /srv/debian
+        dpkg -V sdjwt libsdjwt1 python3-sdjwt
+        sdjwt-keys --version
+        rm -r ~/walk
+        dpkg -r python3-sdjwt libsdjwt1 sdjwt >/dev/null'
+    # shellcheck disable=SC2016
+    holds 'README.md: the wheel' inside 'export PIP_NO_INDEX=1 PIP_DISABLE_PIP_VERSION_CHECK=1
         cd /srv/files
-        . /srv/install
-        dpkg -V sdjwt
-        python3 -c "import sdjwt; print(sdjwt.__version__)"
-        dpkg -r sdjwt >/dev/null
-        rm -r /srv/files/sdjwt-*-linux-x86_64'
+        . /srv/wheel
+        sdjwt-keys --version
+        rm -r ~/walk ~/sdjwt /srv/files/sdjwt-*-linux-x86_64'
 
     # The archive, by the words of its README.
     readme=$(echo "$made"/archive/*/README.md)

@@ -72,7 +72,8 @@ END
 # Runs a script of the clone with that rt, and with the variables before it.
 by_other() { (cd "$clone" && PATH=$made/rt:$PATH env "$@"); }
 # Its lines: the gate, what is built, and what makes the release, with the record of the gate.
-sed -n '/^## A release$/,$s/^       //p' "$top/CONTRIBUTING.md" >"$made/recipe"
+awk '/^## A release$/ { on = 1 } on && /^ *```/ { code = !code; next } on && code { sub(/^ */, ""); print }' \
+    "$top/CONTRIBUTING.md" >"$made/recipe"
 gate=$clone/$(sed -n '3s/^sh release\/check\.sh --gate \([^ ]*\) .*/\1/p' "$made/recipe")
 recipe() {
     [ "$(wc -l <"$made/recipe")" -eq 3 ] && said=$(by_other sh -eu -c "$(sed -n 1p "$made/recipe")") || return 1

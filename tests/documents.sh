@@ -99,11 +99,12 @@ recipes() {
     mkdir "$made/recipes"
     cp examples/walk/order.json "$made/recipes/"
     echo '{"binding": {"nonce": "NONCE"}}' >"$made/recipes/policy.in"
-    awk '/^## / { on = $0 == "## Keys and seeds of your own"; next } on && sub(/^    /, "")' README.md >"$made/readme"
-    awk '/^\*\*A nonce/ { on = 1 } /^\*\*Files\./ { on = 0 } on && sub(/^    /, "")' docs/FILES.md >"$made/files"
+    awk '/^## / { on = $0 == "## Keys and seeds of your own"; next } on && sub(/^[$] /, "")' docs/WALK.md >"$made/walk"
+    awk '/^\*\*A nonce/ { on = 1 } /^\*\*Files\./ { on = 0 } on && /^```/ { code = !code; next } on && code' \
+        docs/FILES.md >"$made/files"
     awk '/^A key, and a token/ { on = 1 } /^\.Ed/ { on = 0 } on && /^[^.A]/' docs/sdjwt.1 >"$made/manual"
     grep -Eo '\(umask 077; .* > (key\.txt|seed\.bin)\)' docs/FILES.md >"$made/keys"
-    for recipe in readme files manual keys; do
+    for recipe in walk files manual keys; do
         mkdir "$made/left"
         cp "$made"/recipes/* "$made/left/"
         (cd "$made/left" && umask 022 && sh -eu "$made/$recipe") || return 1
@@ -120,6 +121,7 @@ if has python3; then
     holds python3 docs/core.py --check
     holds python3 docs/contracts.py --check
     holds python3 docs/facts.py
+    holds python3 docs/links.py
     holds python3 docs/width.py
     holds python3 docs/picture.py
     holds python3 vectors/write.py --check

@@ -1,199 +1,386 @@
 #!/usr/bin/env python3
-"""Tries service.py: by plain requests, and in a browser where python3-selenium and a chromium are installed.
+"""Tries the service, with right and with wrong hands: by requests over HTTP, and in a browser.
 
-    python3 check.py                    tries it
-    python3 check.py --browser          fails where there is no browser
-    python3 check.py --picture FILE     also takes a picture of the page, at the end of the walk
+    python3 check.py                  by requests
+    python3 check.py --browser        also in Chromium, without a window; where there is none, that is said and skipped
+    python3 check.py --browser --pictures FOLDER      also takes pictures of the page
 
-The package sdjwt has to be importable (python/README.md).
+What is skipped is a line "skipped: ..." of the output. The status is 0 if nothing failed.
 """
+from __future__ import annotations
+
 import argparse
-import html
+import importlib.util
 import json
-import re
+import os
+import shutil
+import socket
 import subprocess
 import sys
+import tempfile
+import threading
+import time
 import urllib.error
-import urllib.parse
 import urllib.request
-from base64 import urlsafe_b64encode
+from base64 import urlsafe_b64decode, urlsafe_b64encode
 from datetime import date
 from pathlib import Path
+from typing import Any, Callable
 
-SERVICE = Path(__file__).resolve().parent / "service.py"
-HOSTILE = ["", "<script>document.title='x'</script>", "\"'><img src=x onerror=alert(1)>", "\x00\x01", "\u202e\U0001f600", "/~2",
-           "~" * 1000, "a" * 50_000, "{" * 5_000, "../../etc/passwd", "%s%n", "null", "-1", "9" * 5_000]
-
-
-def post(base, path, fields, **headers):
-    """The status and the text that answer a form."""
-    request = urllib.request.Request(base + path, urllib.parse.urlencode(fields, doseq=True).encode(), headers=headers)
-    try:
-        with urllib.request.urlopen(request, timeout=20) as answer:
-            return answer.status, answer.read().decode()
-    except urllib.error.HTTPError as fault:
-        return fault.code, fault.read().decode()
+HERE = Path(__file__).resolve().parent
+REQUEST_SECONDS = 2
+Json = dict[str, Any]
+ADA: Json = {"event": "Jazz night", "name": "Ada", "seat": "B12", "born": "1990-12-10", "until": "2099-12-31"}
+OVER_18 = ["/over_18"]
+HOSTILE: list[Any] = [
+    "", " ", "<script>document.title='x'</script>", "\"'><img src=x onerror=alert(1)>", "\x00\x01", "\u202e\U0001f600",
+    "\ud800", "~" * 1_000, "a" * 50_000, "a" * 70_000, "{" * 5_000, "../../etc/passwd", "%s%n", "é" * 40_000, None,
+    True, 0, -1, 10**400, 1.5, [], ["/seat", 7], ["/" * 2_000], [""] * 60, {}, {"x": 1, "y": 2},
+    {"kty": "EC", "crv": "P-256", "x": "A" * 43, "y": "A" * 43}]
 
 
-def field(text, name):
-    """What stands in a text area of the page."""
-    return html.unescape(re.search(rf'<textarea name="{name}" rows="6">(.*?)</textarea>', text, re.S)[1])
+class Service:
+    """The service, started for a check. At its end it has to have written no trace of an error."""
+
+    def __init__(self, *options: str) -> None:
+        self._errors = tempfile.TemporaryFile("w+")
+        words = [sys.executable, str(HERE / "service.py"), "0", "--request-seconds", str(REQUEST_SECONDS), *options]
+        self._process = subprocess.Popen(words, stdout=subprocess.PIPE, stderr=self._errors, text=True)
+        assert self._process.stdout is not None
+        self.base = self._process.stdout.readline().strip().rstrip("/")
+        self.port = int(self.base.rpartition(":")[2] or 0)
+
+    def __enter__(self) -> Service:
+        if not self.base:
+            sys.exit(self._end())
+        return self
+
+    def __exit__(self, *_: object) -> None:
+        said = self._end()
+        assert not said, said
+
+    def _end(self) -> str:
+        """Ends the service. Answers what it wrote as errors."""
+        self._process.terminate()
+        self._process.communicate(timeout=10)
+        self._errors.seek(0)
+        return self._errors.read()
+
+    def ask(self, path: str, form: object = None, **headers: str) -> tuple[int, Json]:
+        """The status and the JSON of an answer."""
+        sent = None if form is None else form if isinstance(form, bytes) else json.dumps(form).encode()
+        request = urllib.request.Request(self.base + path, sent, {"Content-Type": "application/json", **headers})
+        try:
+            with urllib.request.urlopen(request, timeout=20) as answer:
+                return answer.status, json.load(answer)
+        except urllib.error.HTTPError as fault:
+            return fault.code, json.load(fault)
+
+    def done(self, path: str, form: object = None) -> Json:
+        status, answer = self.ask(path, form)
+        assert status == 200, (path, status, answer)
+        return answer
+
+    def verdict(self, nonce: str, presented: str) -> Json:
+        verdict: Json = self.done("/door/admit", {"nonce": nonce, "presented": presented})["verdict"]
+        return verdict
 
 
-def by_es256(base):
-    """The walk by ES256, with a key of cryptography in the place of the browser's. Answers why it can't be done."""
-    try:
-        from cryptography.hazmat.primitives import hashes
+class Holder:
+    """A wallet with a key of its own, in the place of the browser's."""
+
+    def __init__(self, service: Service) -> None:
         from cryptography.hazmat.primitives.asymmetric import ec
-        from cryptography.hazmat.primitives.asymmetric.utils import decode_dss_signature
-    except ImportError:
-        return "no package cryptography"
+        self._service, self._key = service, ec.generate_private_key(ec.SECP256R1())
+        point = self._key.public_key().public_numbers()
+        self.jwk: Json = {"kty": "EC", "crv": "P-256", "x": _base64url(_32(point.x)), "y": _base64url(_32(point.y))}
 
-    def base64url(octets):
-        return urlsafe_b64encode(octets).rstrip(b"=").decode()
+    def ticket(self, **fields: str) -> str:
+        form: Json = {**ADA, **fields, "holder": self.jwk}
+        return str(self._service.done("/office/issue", form)["ticket"])
 
-    def signature_of(key, text):
-        r, s = decode_dss_signature(key.sign(text.encode(), ec.ECDSA(hashes.SHA256())))
-        return base64url(r.to_bytes(32, "big") + s.to_bytes(32, "big"))
+    def sign(self, text: str) -> str:
+        from cryptography.hazmat.primitives import hashes
+        from cryptography.hazmat.primitives.asymmetric import ec, utils
+        r, s = utils.decode_dss_signature(self._key.sign(text.encode(), ec.ECDSA(hashes.SHA256())))
+        return _base64url(_32(r) + _32(s))
 
-    ada, other = (ec.generate_private_key(ec.SECP256R1()) for _ in range(2))
-    point = ada.public_key().public_numbers()
-    jwk = {"kty": "EC", "crv": "P-256", "x": base64url(point.x.to_bytes(32, "big")), "y": base64url(point.y.to_bytes(32, "big"))}
-    _, text = post(base, "/issue", {"name": "Ada", "seat": "B12", "year": "1990", "alg": "ES256", "jwk": json.dumps(jwk)})
-    fields = {"ticket": field(text, "ticket"), "nonce": re.search(r'<code id="nonce">(.*?)</code>', text)[1], "show": ["over_18"]}
-    _, text = post(base, "/present", fields)
-    asked = html.unescape(re.search(r'data-text="(.*?)"', text)[1])
-    fields["at"] = re.search(r'name="at" value="(\d+)"', text)[1]
-    for key, said in ((other, "refused 30 bindingSignature"), (ada, "<th>over_18</th><td>true</td>")):
-        _, text = post(base, "/present", {**fields, "signature": signature_of(key, asked)})
-        _, text = post(base, "/verify", {"shown": field(text, "shown")})
-        assert said in text, said
-    assert post(base, "/present", {**fields, "signature": "?"})[0] == 200
-    for value in HOSTILE:
-        status, text = post(base, "/issue", {"name": "Ada", "seat": "B12", "year": "1990", "alg": "ES256", "jwk": value})
-        assert status in (200, 413) and "<script>" not in text
-    print("by requests: the walk by ES256, and with another holder's key")
-    return None
+    def present(self, ticket: str, demand: Json, show: list[str] = OVER_18) -> str:
+        asked: Json = {"ticket": ticket, "show": show, "audience": demand["audience"], "nonce": demand["nonce"]}
+        first = self._service.done("/wallet/present", asked)
+        asked.update(at=first["at"], signature=self.sign(first["sign"]))
+        return str(self._service.done("/wallet/present", asked)["presentation"])
 
 
-def of_age_alone(base):
-    """A ticket that says that its holder is not of age has the claim that the policy requires, and is not admitted."""
-    _, text = post(base, "/issue", {"name": "Eve", "seat": "B13", "year": str(date.today().year - 10)})
-    nonce = re.search(r'<code id="nonce">(.*?)</code>', text)[1]
-    _, text = post(base, "/present", {"ticket": field(text, "ticket"), "nonce": nonce, "show": ["over_18"]})
-    _, text = post(base, "/verify", {"shown": field(text, "shown")})
-    assert '<table class="refusal"><tr><th>not admitted</th>' in text and '<table class="claims">' not in text
-    assert "the claim over_18 is false, and has to be true" in text
-    assert re.search(r'<code id="nonce">(.*?)</code>', text)[1] != nonce, "the nonce of an accepted token is used up"
+def _32(number: int) -> bytes:
+    return number.to_bytes(32, "big")
 
 
-def by_requests(base):
-    """The walk, then hostile input to every field, then requests that are not for this service."""
-    _, text = post(base, "/issue", {"name": "Ada", "seat": "B12", "year": "1990"})
-    ticket = field(text, "ticket")
-    nonce = re.search(r'<code id="nonce">(.*?)</code>', text)[1]
-    _, text = post(base, "/present", {"ticket": ticket, "nonce": nonce, "show": ["over_18"]})
-    shown = field(text, "shown")
-    _, text = post(base, "/verify", {"shown": shown})
-    assert "<th>over_18</th><td>true</td>" in text and "Ada" not in text.split("claims")[1]
-    _, text = post(base, "/verify", {"shown": shown})
-    assert "refused 35 nonceDiffers" in text
-    of_age_alone(base)
-    walks = {"/issue": {"name": "Ada", "seat": "B12", "year": "1990"}, "/present": {"ticket": ticket, "nonce": nonce, "show": "seat"},
-             "/verify": {"shown": shown, "ticket": ticket}}
+def _base64url(octets: bytes) -> str:
+    return urlsafe_b64encode(octets).rstrip(b"=").decode()
+
+
+def is_refused(verdict: Json, title: str) -> None:
+    """Not admitted for this reason, with what to do, and without the words of files."""
+    assert not verdict["admitted"] and verdict["title"] == f"Not admitted: {title}", verdict
+    assert verdict["why"] and verdict["todo"], verdict
+    words = f"{verdict['why']} {verdict['todo']}"
+    assert not any(word in words for word in ("`", "policy", "binding", "skew", "`nonce`", "JSON", "kid")), words
+
+
+def check_walk(service: Service) -> None:
+    """A ticket is issued, one claim of it shown, and the door sees that claim and no other hidden one."""
+    ada = Holder(service)
+    ticket, demand = ada.ticket(), service.done("/door/ask", {})
+    inside = service.done("/wallet/look", {"ticket": ticket})["view"]
+    hidden = {row["label"]: row for row in inside["claims"] if row["digest"]}
+    assert [*sorted(hidden)] == ["Date of birth", "Name", "Over 18", "Over 65", "Seat"] and not inside["hidden"], inside
+    shown = ada.present(ticket, demand)
+    answer = service.done("/door/admit", {"nonce": demand["nonce"], "presented": shown})
+    assert answer["verdict"]["admitted"] and answer["verdict"]["title"] == "Admitted: over 18", answer
+    seen = {row["label"]: row["text"] for row in answer["view"]["claims"]}
+    assert seen["Over 18"] == "yes" and "Name" not in seen and "Ada" not in json.dumps(answer), answer
+    others = {row["digest"] for label, row in hidden.items() if label != "Over 18"}
+    assert set(answer["view"]["hidden"]) == others, "the door sees the digests of the other claims"
+    assert answer["view"]["binding"] == {"audience": demand["audience"], "nonce": demand["nonce"]}
+    assert service.done("/office")["tickets"][0]["name"] == "Ada"
+    assert service.done("/door")["verdicts"][0]["title"] == "Admitted: over 18"
+
+
+def check_stolen(service: Service) -> None:
+    """A presentation is good once, and in no other visit."""
+    ada, demand, other = Holder(service), service.done("/door/ask", {}), service.done("/door/ask", {})
+    shown = ada.present(ada.ticket(), demand)
+    assert service.verdict(demand["nonce"], shown)["admitted"]
+    is_refused(service.verdict(demand["nonce"], shown), "shown before")
+    is_refused(service.verdict(other["nonce"], shown), "made for another visit")
+    is_refused(service.verdict("never given out", shown), "unknown visit")
+
+
+def check_race(service: Service) -> None:
+    """Of many requests at once with one nonce, one is admitted."""
+    ada, demand = Holder(service), service.done("/door/ask", {})
+    shown, titles = ada.present(ada.ticket(), demand), []
+
+    def come() -> None:
+        titles.append(service.verdict(demand["nonce"], shown)["title"])
+
+    threads = [threading.Thread(target=come) for _ in range(20)]
+    for thread in threads:
+        thread.start()
+    for thread in threads:
+        thread.join()
+    assert sorted(titles) == ["Admitted: over 18"] + ["Not admitted: shown before"] * 19, titles
+
+
+def check_changed(service: Service) -> None:
+    """A ticket of somebody who is too young, with its claim changed, and changes after the holder has signed."""
+    eve = Holder(service)
+    ticket = eve.ticket(born=f"{date.today().year - 10}-01-01")
+    demand = service.done("/door/ask", {})
+    is_refused(service.verdict(demand["nonce"], eve.present(ticket, demand)), "not over 18")
+    demand = service.done("/door/ask", {})
+    jwt, disclosure, binding = eve.present(ticket, demand).split("~")
+    salt, name, _ = json.loads(urlsafe_b64decode(disclosure + "=" * (-len(disclosure) % 4)))
+    changed = _base64url(json.dumps([salt, name, True]).encode())
+    is_refused(service.verdict(demand["nonce"], f"{jwt}~{changed}~{binding}"), "changed")
+    demand = service.done("/door/ask", {})
+    jwt, over_18, seat, binding = eve.present(eve.ticket(), demand, [*OVER_18, "/seat"]).split("~")
+    is_refused(service.verdict(demand["nonce"], f"{jwt}~{over_18}~{binding}"), "changed")
+    demand = service.done("/door/ask", {})
+    head, _, rest = eve.present(eve.ticket(), demand).partition(".")
+    letter = "B" if rest[20] == "A" else "A"
+    is_refused(service.verdict(demand["nonce"], f"{head}.{rest[:20]}{letter}{rest[21:]}"), "not from this office")
+
+
+def check_others(service: Service) -> None:
+    """Another holder's key, another office, another door, no signature of the holder, and no age."""
+    ada, eve = Holder(service), Holder(service)
+    ticket = ada.ticket()
+
+    def refused(title: str, present: Callable[[Json], str]) -> None:
+        demand = service.done("/door/ask", {})
+        is_refused(service.verdict(demand["nonce"], present(demand)), title)
+
+    refused("another person's ticket", lambda demand: eve.present(ticket, demand))
+    refused("nobody vouches for it", lambda demand: ticket)
+    refused("age not shown", lambda demand: ada.present(ticket, demand, ["/seat"]))
+    elsewhere = {"audience": "https://elsewhere.example"}
+    refused("made for another door", lambda demand: ada.present(ticket, {**demand, **elsewhere}))
+    refused("made for another visit", lambda demand: ada.present(ticket, {**demand, "nonce": "mine"}))
+    refused("no ticket", lambda demand: "")
+    refused("no ticket", lambda demand: " \n ")
+    refused("not a ticket", lambda demand: "a ticket, please")
+    old = ada.ticket(until="2020-01-01")
+    refused("the ticket has expired", lambda demand: ada.present(old, demand))
+    with Service() as another:
+        stranger = Holder(another)
+        refused("not from this office", lambda demand: stranger.present(stranger.ticket(), demand))
+
+
+def check_old() -> None:
+    """A nonce that was given out too long ago."""
+    with Service("--visit-seconds", "0.01") as service:
+        ada, demand = Holder(service), service.done("/door/ask", {})
+        shown = ada.present(ada.ticket(), demand)
+        is_refused(service.verdict(demand["nonce"], shown), "too late")
+        is_refused(service.verdict(demand["nonce"], shown), "shown before")
+
+
+def check_hostile(service: Service) -> int:
+    """Each field of each form with what a stranger may send. Answers how many were sent."""
+    ada, demand = Holder(service), service.done("/door/ask", {})
+    ticket = ada.ticket()
+    presented = ada.present(ticket, demand)
+    forms: dict[str, Json] = {
+        "/office/issue": {**ADA, "holder": ada.jwk}, "/wallet/look": {"ticket": ticket},
+        "/wallet/present": {**demand, "ticket": ticket, "show": OVER_18, "at": 1, "signature": "A" * 86},
+        "/door/admit": {**demand, "presented": presented}}
     tried = 0
-    for path, fields in walks.items():
-        for name in fields:
+    for path, form in forms.items():
+        for name in form:
             for value in HOSTILE:
-                status, text = post(base, path, {**fields, name: value})
-                assert status in (200, 413), (path, name, status)
-                assert "<script>" not in text and "<img" not in text, (path, name)
+                status, answer = service.ask(path, {**form, name: value})
+                assert status in (200, 413, 422), (path, name, value, status, answer)
+                assert status == 200 or answer["problem"], answer
                 tried += 1
-        assert post(base, path, {})[0] == 200
-    assert post(base, "/issue", {str(n): "x" for n in range(100)})[0] == 400
-    assert post(base, "/verify", {"shown": "x" * 200_000})[0] == 413
-    assert post(base, "/issue", walks["/issue"], Origin="http://evil.example")[0] == 403
-    assert post(base, "/issue", walks["/issue"], Host="evil.example")[0] == 403
-    assert post(base, "/other", {})[0] == 403
-    print(f"by requests: the walk, and {tried} forms of hostile input")
+        assert service.ask(path, {})[0] == 422
+    nested = _hostile_token()
+    deep = _base64url(b"[" * 900 + b"]" * 900)
+    for value in (
+            nested, ticket + "~", ticket * 2, presented[:-3], "." * 1_000, "e30.e30.~~", f"{ticket}e30.{deep}.e30"):
+        assert service.ask("/wallet/look", {"ticket": value})[0] == 200
+    assert service.done("/wallet/look", {"ticket": nested})["view"] is not None
+    return tried
 
 
-def by_browser(base, picture):
-    """The walk by clicks. Answers why it can't be done, where it can't."""
+def _hostile_token() -> str:
+    """A token that nobody signed, whose disclosures stand in one another at two places each."""
+    from hashlib import sha256
+    digest, disclosures = "end", []
+    for number in range(250):
+        text = _base64url(json.dumps([str(number), "<b>", {"_sd": [digest], "again": {"_sd": [digest]}}]).encode())
+        digest = _base64url(sha256(text.encode()).digest())
+        disclosures.append(text)
+    jwt = ".".join(_base64url(json.dumps(part).encode()) for part in ({"alg": "ES256"}, {"_sd": [digest, 7, digest]}))
+    return f"{jwt}.AAAA~{'~'.join(disclosures)}~"
+
+
+def check_requests(service: Service) -> None:
+    """Requests that are not the page's, and what comes with an answer."""
+    issue: Json = {**ADA, "holder": Holder(service).jwk}
+    assert service.ask("/office/issue", issue, Origin="http://evil.example")[0] == 403
+    assert service.ask("/office/issue", issue, Host="evil.example")[0] == 403
+    assert service.ask("/office/issue", issue, Origin="null")[0] == 403
+    assert service.ask("/office/issue", issue, **{"Content-Type": "text/plain"})[0] == 415
+    for body in (b"", b"{", b"[]", b"7", b"\xff", b"[" * 50_000, b'{"name": ' + b"9" * 50_000 + b"}"):
+        assert service.ask("/office/issue", body)[0] in (400, 422), body
+    assert service.ask("/office/issue", {"name": "x" * 200_000})[0] == 413
+    for path in ("/other", "/../office.py", "/office.py", "/door/ask/"):
+        assert service.ask(path)[0] == 404 and service.ask(path, {})[0] == 404, path
+    with urllib.request.urlopen(service.base, timeout=20) as page:
+        text, policy = page.read().decode(), page.headers["Content-Security-Policy"]
+    assert "default-src 'none'" in policy and "unsafe" not in policy, policy
+    assert "onclick=" not in text and "style=" not in text and "<style" not in text
+    for host in ("127.0.0.1", "[::1]") if has_ipv6() else ("127.0.0.1",):
+        with urllib.request.urlopen(f"http://{host}:{service.port}/", timeout=20) as page:
+            assert page.read().decode() == text, host
+
+
+def has_ipv6() -> bool:
     try:
-        from selenium import webdriver
-        from selenium.webdriver.chrome.service import Service
-        from selenium.webdriver.common.by import By
-        from selenium.webdriver.support.expected_conditions import staleness_of
-        from selenium.webdriver.support.wait import WebDriverWait
-    except ImportError:
-        return "no python3-selenium"
-    options = webdriver.ChromeOptions()
-    for word in ("--headless=new", "--no-sandbox", "--disable-gpu", "--window-size=1250,900"):
-        options.add_argument(word)
+        with socket.socket(socket.AF_INET6) as tried:
+            tried.bind(("::1", 0))
+        return True
+    except OSError:
+        return False
+
+
+def _raw(service: Service, *pieces: bytes, wait: float = 0.0) -> bytes:
+    """What is answered to bytes that are sent piece by piece."""
+    with socket.create_connection(("127.0.0.1", service.port), timeout=20) as connection:
+        try:
+            for piece in pieces:
+                connection.sendall(piece)
+                time.sleep(wait)
+            return connection.recv(65_536)
+        except ConnectionError:
+            return b""
+
+
+def check_slow(service: Service) -> None:
+    """A client that sends a byte now and then does not hold a thread for longer than a request may take."""
+    head = f"POST /door/ask HTTP/1.1\r\nHost: localhost:{service.port}\r\nContent-Type: application/json\r\n".encode()
+    slow_body = [head, b"Content-Length: 50\r\n\r\n", *[b" "] * 50]
+    for pieces in (slow_body, [head, *[b"X: y\r\n"] * 50], [b"P", *[b"O"] * 50]):
+        began = time.monotonic()
+        answer = _raw(service, *pieces, wait=0.1)
+        took = time.monotonic() - began
+        assert REQUEST_SECONDS - 0.2 < took < REQUEST_SECONDS + 3.2 and b" 200 " not in answer, (took, answer)
+    assert _raw(service, head, b"\r\n").startswith(b"HTTP/1.0 411 ")
+    assert _raw(service, head, b"Content-Length: -1\r\n\r\n").startswith(b"HTTP/1.0 411 ")
+    assert _raw(service, b"DELETE / HTTP/1.1\r\n\r\n").startswith(b"HTTP/1.0 501 ")
+    assert b"<" not in _raw(service, b"<script> / HTTP/1.1\r\n\r\n").partition(b"\r\n\r\n")[2]
+    idle = [socket.create_connection(("127.0.0.1", service.port), timeout=20) for _ in range(70)]
     try:
-        browser = webdriver.Chrome(options=options, service=Service("/usr/bin/chromedriver"))
-    except Exception as fault:
-        return f"{type(fault).__name__}: is chromium-driver installed?"
-    try:
-        find = browser.find_element
-
-        def press(button):
-            page = find(By.TAG_NAME, "html")
-            find(By.ID, button).click()
-            WebDriverWait(browser, 20).until(staleness_of(page))
-
-        def walk(alg):
-            """From the ticket to the claims. By ES256 the browser makes Ada's key, and signs before the page is sent again."""
-            choice = find(By.CSS_SELECTOR, f"input[value={alg}]")
-            WebDriverWait(browser, 20).until(lambda _: choice.is_enabled())
-            choice.click()
-            press("issue")
-            find(By.CSS_SELECTOR, "input[value=over_18]").click()
-            find(By.CSS_SELECTOR, "input[value=seat]").click()
-            press("present")
-            WebDriverWait(browser, 20).until(lambda _: find(By.NAME, "shown").get_attribute("value"))
-            assert find(By.CSS_SELECTOR, "input[value=over_18]").is_selected()
-            press("verify")
-            rows = dict(row.text.split(" ", 1) for row in browser.find_elements(By.CSS_SELECTOR, ".claims tr"))
-            assert rows["over_18"] == "true" and rows["seat"] == '"B12"' and "name" not in rows, rows
-            assert ("jwk" in rows["cnf"]) == (alg == "ES256"), rows
-
-        browser.get(base + "/")
-        walk("HS256")
-        walk("ES256")
-        if picture:
-            browser.save_screenshot(picture)
-        press("verify")
-        assert "refused" in find(By.CSS_SELECTOR, ".refusal").text
-        find(By.NAME, "name").clear()
-        find(By.NAME, "name").send_keys("<script>document.title='x'</script>")
-        press("issue")
-        assert browser.title == "A ticket with an age mark"
-        print("in a browser: the walk by clicks")
-        return None
+        assert any(b" 503 " in connection.recv(100) for connection in idle[-2:]), "there is no bound on connections"
     finally:
-        browser.quit()
+        for connection in idle:
+            connection.close()
+    time.sleep(0.5)
+    service.done("/door/ask", {})
 
 
-def main():
+def check_start(service: Service) -> None:
+    """What is missing is said, with what to do: the library, cryptography, or a port."""
+    nowhere = {**os.environ, "SDJWT_LIBRARY": "/nowhere/libsdjwt.so"}
+    with tempfile.TemporaryDirectory() as folder:
+        alone = Path(shutil.copytree(HERE, Path(folder, "examples", "service")))
+        for status, said, ended in (
+                (1, "sh c/build.sh --look", _start(HERE, "0", environment=nowhere)),
+                (1, "pip install ./sdjwt", _start(alone, "0", without="sdjwt")),
+                (1, "pip install cryptography", _start(HERE, "0", without="cryptography")),
+                (1, "Name another one", _start(HERE, str(service.port))),
+                (2, "invalid choice: 70000", _start(HERE, "70000"))):
+            assert ended.returncode == status and said in ended.stderr and "Traceback" not in ended.stderr, ended
+
+
+def _start(
+    folder: Path, port: str, without: str = "", environment: dict[str, str] | None = None,
+) -> subprocess.CompletedProcess[str]:
+    """Starts the service of a folder, as if a package was not installed."""
+    start = "import runpy, sys; sys.modules[sys.argv.pop(1)] = None; sys.path.insert(0, sys.argv.pop(1)); " \
+            "runpy.run_path(sys.path[0] + '/service.py', run_name='__main__')"
+    words = [sys.executable, "-c", start, without or "no_package", str(folder), port]
+    return subprocess.run(words, env=environment, capture_output=True, text=True, timeout=30)
+
+
+def by_requests(service: Service) -> None:
+    checks = [
+        check_walk, check_stolen, check_race, check_changed, check_others, check_requests, check_slow, check_start]
+    for check in checks:
+        check(service)
+    check_old()
+    tried = check_hostile(service)
+    print(f"by requests: {len(checks) + 1} walks with right and wrong hands, and {tried} hostile fields")
+
+
+def main() -> None:
     parser = argparse.ArgumentParser(description=__doc__, formatter_class=argparse.RawDescriptionHelpFormatter)
     parser.add_argument("--browser", action="store_true")
-    parser.add_argument("--picture")
-    words = parser.parse_args()
-    with subprocess.Popen([sys.executable, str(SERVICE), "0"], stdout=subprocess.PIPE, text=True) as service:
-        try:
-            base = service.stdout.readline().strip().rstrip("/")
-            by_requests(base)
-            without_keys = by_es256(base)
-            missing = by_browser(base, words.picture)
-        finally:
-            service.terminate()
-    if without_keys:
-        print(f"skipped: ES256 ({without_keys})")
-    if missing:
-        print(f"skipped: the browser ({missing})")
-        sys.exit(words.browser)
+    parser.add_argument("--pictures", type=Path)
+    given = parser.parse_args()
+    if importlib.util.find_spec("cryptography") is None:
+        print("skipped: the service (no package cryptography)")
+        return
+    with Service() as service:
+        by_requests(service)
+    if given.browser:
+        from check_browser import by_browser
+        with Service("--request-seconds", "10") as service:
+            missing = by_browser(service, given.pictures)
+        if missing:
+            print(f"skipped: the service in a browser ({missing})")
 
 
 if __name__ == "__main__":

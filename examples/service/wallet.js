@@ -1,7 +1,8 @@
-// Ada's key: made in this browser by WebCrypto, kept in it, and never sent. It signs what the page asks for.
-"use strict";
+// Ada's wallet: her key and her tickets, which stay in this browser.
 
-// One request to the store of keys of this browser.
+const TICKETS = "tickets";
+
+// One request to the key store of this browser.
 function stored(mode, request) {
   return new Promise((done, failed) => {
     const opening = indexedDB.open("wallet", 1);
@@ -15,40 +16,50 @@ function stored(mode, request) {
   });
 }
 
-// The pair of keys. Its private one is not extractable, so that no script can read it, this one neither.
-async function keys() {
+// The pair of keys, made at the first visit. The private key is not extractable, so no script can read it.
+export async function openKey() {
   const kept = await stored("readonly", (store) => store.get("ada"));
   if (kept) return kept;
-  const made = await crypto.subtle.generateKey({ name: "ECDSA", namedCurve: "P-256" }, false, ["sign"]);
+  const made = await makeKey();
   await stored("readwrite", (store) => store.put(made, "ada"));
   return made;
 }
 
-function base64url(bytes) {
-  const text = btoa(String.fromCharCode(...new Uint8Array(bytes)));
-  return text.replaceAll("+", "-").replaceAll("/", "_").replaceAll("=", "");
+export function makeKey() {
+  return crypto.subtle.generateKey({ name: "ECDSA", namedCurve: "P-256" }, false, ["sign"]);
 }
 
-// The office gets the public key, for the claim cnf of the ticket.
-async function offer(pair) {
+// The public key, which the office puts into the ticket.
+export async function publicKey(pair) {
   const { kty, crv, x, y } = await crypto.subtle.exportKey("jwk", pair.publicKey);
-  const form = document.getElementById("office");
-  form.elements.jwk.value = JSON.stringify({ kty, crv, x, y });
-  for (const radio of form.querySelectorAll("[name=alg]")) radio.disabled = false;
+  return { kty, crv, x, y };
 }
 
-// The text of a key binding token is signed, and the signature sent. WebCrypto's has the form of a JWS: r and s.
-async function sign(pair, form) {
-  const text = new TextEncoder().encode(form.dataset.text);
-  const signature = await crypto.subtle.sign({ name: "ECDSA", hash: "SHA-256" }, pair.privateKey, text);
-  form.elements.signature.value = base64url(signature);
-  form.submit();
+// The signature of a text by ES256. WebCrypto gives it as a JWS has it: r and s, and not DER.
+export async function sign(pair, text) {
+  const bytes = new TextEncoder().encode(text);
+  const made = await crypto.subtle.sign({ name: "ECDSA", hash: "SHA-256" }, pair.privateKey, bytes);
+  const base64 = btoa(String.fromCharCode(...new Uint8Array(made)));
+  return base64.replaceAll("+", "-").replaceAll("/", "_").replaceAll("=", "");
 }
 
-async function start() {
-  const pair = await keys();
-  const form = document.getElementById("sign");
-  await (form ? sign(pair, form) : offer(pair));
+// The tickets that the office with this key has issued, the newest first. The office's key is made when the service
+// starts, so older tickets are of no use, and are dropped.
+export function tickets(office) {
+  const kept = JSON.parse(localStorage.getItem(TICKETS) ?? "[]").filter((ticket) => ticket.office === office);
+  localStorage.setItem(TICKETS, JSON.stringify(kept));
+  return kept.map((ticket) => ticket.text);
 }
 
-start();
+export function keep(office, text) {
+  const kept = tickets(office).filter((other) => other !== text);
+  write(office, [text, ...kept].slice(0, 10));
+}
+
+export function remove(office, text) {
+  write(office, tickets(office).filter((other) => other !== text));
+}
+
+function write(office, texts) {
+  localStorage.setItem(TICKETS, JSON.stringify(texts.map((text) => ({ office, text }))));
+}

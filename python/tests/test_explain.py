@@ -13,7 +13,7 @@ import pytest
 
 TOP = Path(__file__).resolve().parent.parent.parent
 PAGE = (TOP / "docs/REFUSALS.md").read_text(encoding="utf-8")
-ENTRIES = re.findall(r"^(?:- \*\*([\w ]+)\*\*: .*|\| `([A-Za-z_ ]+)` \|.*\|.*\|.*\|)$", PAGE, re.M)
+ENTRIES = re.findall(r"^(?:### ([\w ]+?)(?: <a id=\"\d+\"></a>)?|\| `([A-Za-z_ ]+)` \|.*\|.*\|.*\|)$", PAGE, re.M)
 HEADINGS = [heading or f"unreadable {reason}" for heading, reason in ENTRIES]
 LINES = re.findall(r"^[^#\n].* = ([1-6]) (.*)$", (TOP / "examples/refusals/cases.txt").read_text(encoding="utf-8"), re.M)
 POLICY = TOP / "examples/refusals/policy_short_key.json"

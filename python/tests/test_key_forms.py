@@ -202,6 +202,14 @@ def test_keys_of_another_type(keys):
         sdjwt.Policy({"algs": ["ES256"]}, keys=keys)
 
 
+@each("keys", [[], (), set(), iter(())], ids=repr)
+def test_no_keys_at_all(keys):
+    with pytest.raises((sdjwt.Unreadable, TypeError)):
+        sdjwt.Policy({"algs": ["ES256"], "keys": keys})
+    with pytest.raises(TypeError, match="keys"):
+        sdjwt.Policy({"algs": ["ES256"]}, keys=keys)
+
+
 def test_keys_are_given_once():
     for keys in (KEYS["ES256"].pem(), lambda iss, header: None):
         for policy in ({"keys": KEYS["ES256"].pem(), "algs": ["ES256"]}, '{"keys":{"keys":[]},"algs":["ES256"]}'):

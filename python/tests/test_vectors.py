@@ -6,6 +6,7 @@ from pathlib import Path
 import pytest
 
 import sdjwt
+from sdjwt import _answers
 
 VECTORS = Path(__file__).resolve().parent.parent.parent / "vectors"
 sys.path.insert(0, str(VECTORS))
@@ -35,7 +36,7 @@ def issued(order, seed):
         sdjwt.issue(order, seed)
     # of another length it is for the library to judge, which the package does not ask
     called = sdjwt._library.call("issue", order, seed)
-    return sdjwt._without_end(sdjwt._answer(*called, ("order", order), ("seed", seed)))
+    return _answers.without_end(_answers.answered(*called, ("order", order), ("seed", seed)))
 
 
 def answer_of(words, read, now):

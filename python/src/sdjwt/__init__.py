@@ -24,7 +24,8 @@ from __future__ import annotations
 import secrets
 from collections.abc import Iterable
 from dataclasses import dataclass
-from typing import Any, Literal, overload
+# get_type_hints looks here for the names in the annotations of classes that are shown as those of this module
+from typing import Any, Literal, Optional, overload  # noqa: F401
 
 from sdjwt import _library
 from sdjwt._answers import answered, object_of, without_end
@@ -102,12 +103,12 @@ def issue(
     >>> token = issue({"payload": {"name": "Ada"}, "hide": ["/name"], "key": key})
     >>> token.count("~")
     2
-    >>> issue({"payload": {"name": "Ada"}, "hide": ["/seat"], "key": key})
+    >>> issue({"payload": {"name": "Ada"}, "hide": ["/seat"], "key": key})  # doctest: +ELLIPSIS
     Traceback (most recent call last):
-    sdjwt.BadOrder: refused 55 noSuchPlace at 0: A pointer of `hide` leads nowhere.
+    sdjwt.BadOrder: refused 55 noSuchPlace at 0: ...
 
-    The key of an order is shared. With `sign` the order has neither `key` nor `alg`, and `sign` is a private key of the package
-    cryptography, or a function that is given the bytes to sign and answers the signature. A key of P-256, P-384, P-521 or Ed25519
+    The key of an order is shared. With `sign` the order has neither `key` nor `alg`, and `sign` is a private key, as an object of the
+    package cryptography, a PEM or a JWK, or a function that is given the bytes to sign and returns the signature. A key of P-256, P-384, P-521 or Ed25519
     signs by ES256, ES384, ES512 or EdDSA. For one of RSA `alg` names the algorithm: PS256, PS384, PS512, RS256, RS384 or RS512.
     For a function `alg` names its algorithm, and the signature is the one that a JWS has: of ES256 the 64 bytes of r and s, and
     not the DER that many a vault answers. It is asked once, and not for an order that 51 to 60 refuse.
@@ -148,7 +149,7 @@ def present(
 ) -> str:
     """What a holder presents of a token, in its compact form.
 
-    The moment is in seconds since 1970, which a key binding token tells; it is now where none is given.
+    The moment, which a key binding token tells, is in seconds since 1970 or an aware datetime; it is now where none is given.
 
     >>> key = "dGhlIHRpY2tldCBvZmZpY2Uga2V5LCBub3QgeW91cnM"
     >>> token = issue({"payload": {"name": "Ada", "age": 7}, "hide": ["/name", "/age"], "key": key})
@@ -210,10 +211,10 @@ def verify(
     >>> try:
     ...     verify({"keys": keys}, token, now=1001)
     ... except Expired as refused:
-    ...     print(refused)
     ...     print(refused.number, refused.name, refused.place)
-    refused 25 expired: The moment of the claim `exp` has come: the token is valid no longer.
+    ...     print(refused)
     25 expired None
+    refused 25 expired: The time of the claim `exp` has come: the token is no longer valid.
     """
     need_stack()
     asked = file_bytes(with_key_sets(policy), "policy")
@@ -284,13 +285,18 @@ def audit(order: Json, token: Json, *, most: int = MOST) -> None:
     >>> order = {"payload": {"name": "Ada"}, "hide": ["/name"], "key": "dGhlIHRpY2tldCBvZmZpY2Uga2V5LCBub3QgeW91cnM"}
     >>> token = issue(order)
     >>> audit(order, token)
-    >>> audit({**order, "payload": {"name": "Eve"}}, token)
+    >>> audit({**order, "payload": {"name": "Eve"}}, token)  # doctest: +ELLIPSIS
     Traceback (most recent call last):
-    sdjwt.Refused: refused 83 payloadDiffers: With all disclosures opened the token does not say what the payload of the order says, or what is hidden is not what the order hides, or the disclosures stand in another order than the issuer's.
+    sdjwt.Refused: refused 83 payloadDiffers: ...
     """
     need_stack()
     ordered = file_bytes(order, "order")
-    answered(*_library.call("audit", ordered, token_bytes(token, most)), ("order", ordered))
+    try:
+        answered(*_library.call("audit", ordered, token_bytes(token, most)), ("order", ordered))
+    except Unreadable as fault:
+        if fault.reason != "missing key":
+            raise
+        raise Unreadable(fault.line, f"{fault.detail}; a token that is signed with a private key cannot be audited") from None
 
 
 @dataclass(frozen=True)
@@ -313,9 +319,9 @@ def wallet(query: Json, tokens: Iterable[Json], *, most: int = MOST) -> Picked:
     >>> picked = wallet(query, [badge, ticket])
     >>> picked.index, [disclosure["name"] for disclosure in show(picked.token)["disclosures"]]
     (1, ['seat'])
-    >>> wallet({**query, "want": ["/name"]}, [badge, ticket])
+    >>> wallet({**query, "want": ["/name"]}, [badge, ticket])  # doctest: +ELLIPSIS
     Traceback (most recent call last):
-    sdjwt.Refused: refused 77 noCredentialAnswers: Of the token files that were named, none can be used and answers the query.
+    sdjwt.Refused: refused 77 noCredentialAnswers: ...
     """
     need_stack()
     asked = file_bytes(with_key_sets(query), "query")

@@ -80,7 +80,7 @@ class Functions(NamedTuple):
 def object_in(text: bytes, part: int) -> dict[str, Any]:
     """The object in a part of what was signed; an empty one if it is none."""
     try:
-        found = json.loads(decoded(text.split(b".")[part].decode()))
+        found = json.loads(decoded(text.split(b".")[part].decode()).decode())
     except (ValueError, LookupError, RecursionError):
         return {}
     return found if isinstance(found, dict) else {}
@@ -135,9 +135,9 @@ class Checking:
 
 def _keys_in(found: object) -> list[Key]:
     """The keys that a function returned, without those that are invalid."""
-    if found is None:
-        return []
     given = {"keys": as_key_set(found, "/keys")}
+    if given["keys"] is None or given["keys"] == []:
+        return []
     if not has_set(given):
         raise TypeError(f"sdjwt: keys returned a value of type {type(found).__name__}, and has to return keys or None")
     keys = []

@@ -17,6 +17,10 @@ _SEED_LEN = 32
 _KEY_MIN = {"HS256": 32, "HS384": 48, "HS512": 64}
 _HASHES = ("sha-256", "sha-384", "sha-512")
 _LETTERS = "ABCDEFGHIJKLMNOPQRSTUVWXYZabcdefghijklmnopqrstuvwxyz0123456789-_"
+# The letters of a key of 32 bytes.
+_KEY_LETTERS = 43
+# The beginning of a compact token, or a JWT.
+_TOKEN = re.compile(r"\s*(?:[A-Za-z0-9_-]+\.){2}[A-Za-z0-9_-]+(?:~|\s*$)")
 
 
 class Fault(NamedTuple):
@@ -363,6 +367,12 @@ def _miscoded(key: str) -> str:
     return ""
 
 
+def _miscoded_key(key: str) -> str:
+    """The same for a key. It is said first that it is too short."""
+    said, letters = _miscoded(key), len(key.rstrip("="))
+    return f"it is too short: {letters} letters, and a key has at least {_KEY_LETTERS}" if said and letters < _KEY_LETTERS else said
+
+
 def _is_short(key: str) -> str:
     length = len(key) * 6 // 8
     return "" if length >= 32 else f"it codes {length} bytes, of the at least 32 that a key has"
@@ -370,7 +380,7 @@ def _is_short(key: str) -> str:
 
 def _key(value: Any, place: str, file: dict[str, Any]) -> str:
     wrong = _text(value, place, file)
-    said = "" if wrong else _miscoded(value) or _is_short(value)
+    said = "" if wrong else _miscoded_key(value) or _is_short(value)
     return wrong or (_at(place, said) if said else "")
 
 
@@ -402,7 +412,7 @@ def _key_set(value: Any, place: str, file: dict[str, Any]) -> str:
     keys = value["keys"]
     wrong = _first(_key_form(key, f"{place}/keys/{i}") for i, key in enumerate(keys))
     codes = [] if wrong else [(f"{place}/keys/{i}/k", key["k"]) for i, key in enumerate(keys) if key["kty"] == "oct"]
-    said = [(at, why(code)) for why in (_miscoded, _is_short) for at, code in codes]
+    said = [(at, why(code)) for why in (_miscoded_key, _is_short) for at, code in codes]
     return wrong or _first(_at(at, why) for at, why in said if why)
 
 
@@ -497,7 +507,8 @@ def fault(kind: str, content: bytes) -> Fault | None:
     try:
         value = reader.document()
     except _NotJson as broken:
-        return Fault("notJson", f"{_where(text, broken.at)}: {broken.said}")
+        said = "this is a token; the policy, the order or the query comes first" if _TOKEN.match(text) else broken.said
+        return Fault("notJson", f"{_where(text, broken.at)}: {said}")
     uneven, place = min(_unevens(value, ""), default=(None, "")) if reader.has_uneven else (None, "")
     if uneven is not None:
         return Fault("notWhole", f"{_where(text, uneven.at)}: the number at {shown_place(place)} {uneven.why}")

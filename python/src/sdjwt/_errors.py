@@ -15,6 +15,8 @@ from sdjwt import _detail
 
 # The module that a log shows, and where pickle looks for a class.
 _SHOWN = "sdjwt"
+# A link of docs/REFUSALS.md, of which a sentence has only the text.
+_LINK = re.compile(r"\[([^\]]*)\]\([^)]*\)")
 
 
 @lru_cache(maxsize=None)
@@ -42,7 +44,7 @@ class SdJwtError(Exception):
         return f"{self.line}: {said}" if said else self.line
 
     def _sentence(self) -> str:
-        return self.explanation
+        return _LINK.sub(r"\1", self.explanation)
 
     def _made_of(self) -> tuple[object, ...]:
         """What the class is called with to make the same exception, for pickle and copy."""
@@ -170,7 +172,7 @@ CLASSES: dict[int, type[Refused]] = {
 def refusal(line: str) -> Refused:
     """The exception for the line of a refusal."""
     number = re.match(r"refused (\d+) ", line)
-    return (Refused if number is None else CLASSES.get(int(number[1]), Refused))(line)
+    return CLASSES.get(int(number[1]) if number is not None else 0, Refused)(line)
 
 
 class Unreadable(SdJwtError, ValueError):
@@ -191,7 +193,7 @@ class Unreadable(SdJwtError, ValueError):
         self._detail = detail
 
     def _sentence(self) -> str:
-        return self.detail or self.explanation
+        return self.detail or super()._sentence()
 
     def _made_of(self) -> tuple[object, ...]:
         return self.line, self.detail

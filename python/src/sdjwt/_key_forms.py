@@ -88,7 +88,9 @@ def as_key_set(value: object, place: str) -> object:
             return {"keys": [dict(value)]} if "kty" in value else value
         return {**value, "keys": _several(keys, f"{place}/keys")}
     if _are_several(value):
-        return {"keys": _several(value, place)}
+        found = _several(value, place)
+        # no key at all is no key set
+        return {"keys": found} if found else found
     return {"keys": _several([value], place)} if pem_of(value) is not None or _is_object(value) else value
 
 

@@ -55,9 +55,13 @@ class Policy:
     ES512, EdDSA, PS256, RS256 and the like. Signatures under them are checked by the package cryptography. The key of a
     holder is `cnf.jwk` of the token, or the key of the `keys` of the `binding` that `cnf.kid` names. `binding` may have
     `algs` of its own, the algorithms of holders; it needs no `keys` if one of these is for public keys. An invalid key is
-    skipped, and `skipped_keys` lists it. `check` is a function that is asked of a signature for which no key is here, by a
-    `Question`: it answers True where it is good, False where it is bad, and None where it has no key for it. It is never
-    asked about an HMAC.
+    skipped, and `skipped_keys` lists it. In place of a JWK there may be a PEM or a key object, and in place of the set one
+    key or a list of keys. The argument `keys` takes the same for a policy that has none, or a function that is asked for
+    the keys of an issuer, by the claim `iss` of the token and its header, which nobody has verified then.
+
+    `check` is a function that is asked of a signature for which no key is here, by a `Question`: it answers True where it
+    is good, False where it is bad, and None where it has no key for it. It is never asked about an HMAC. Both functions may
+    be coroutine functions, for `verify_async` and `check_async`.
 
     >>> key = "dGhlIHRpY2tldCBvZmZpY2Uga2V5LCBub3QgeW91cnM"
     >>> policy = Policy({"keys": {"keys": [{"kty": "oct", "k": key}]}, "require": ["seat"]})
@@ -79,9 +83,9 @@ class Policy:
     ...                "binding": {"aud": "https://door.example", "keys": holders, "max_age": 300}})
     >>> door.verify(shown, nonce="4711")
     {'cnf': {'kid': 'ada'}}
-    >>> door.verify(shown, nonce="4712")
+    >>> door.verify(shown, nonce="4712")  # doctest: +ELLIPSIS
     Traceback (most recent call last):
-    sdjwt.NonceDiffers: refused 35 nonceDiffers: The `nonce` of the key binding token is not the one of the policy.
+    sdjwt.NonceDiffers: refused 35 nonceDiffers: ...
     """
 
     __module__ = "sdjwt"

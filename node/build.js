@@ -1,0 +1,24 @@
+// Compiles addon.c into sdjwt.node, with the C library inside: node build.js
+// SDJWT_DIR is the folder that c/build.sh leaves (../c/out where it is not set), CC the compiler. Nothing is downloaded: the
+// headers are those of the node that runs this.
+import { spawnSync } from 'node:child_process'
+import { existsSync } from 'node:fs'
+import { dirname, join } from 'node:path'
+import { fileURLToPath } from 'node:url'
+
+const here = dirname(fileURLToPath(import.meta.url))
+const library = process.env.SDJWT_DIR ?? join(here, '../c/out')
+const roots = [join(dirname(process.execPath), '../include/node'), '/usr/include/node', '/usr/include/nodejs/src']
+const headers = roots.find((folder) => existsSync(join(folder, 'node_api.h')))
+
+function refuse(text) {
+  console.error(`build.js: ${text}`)
+  process.exit(1)
+}
+
+if (headers === undefined) refuse('the headers of node are not there: install libnode-dev, or node from nodejs.org')
+if (!existsSync(join(library, 'lib/libsdjwt.a'))) refuse(`there is no lib/libsdjwt.a in ${library}: run sh c/build.sh`)
+const words = ['-std=c11', '-O2', '-Wall', '-Wextra', '-fPIC', '-shared', `-I${headers}`, `-I${join(library, 'include')}`,
+  join(here, 'addon.c'), join(library, 'lib/libsdjwt.a'), '-o', join(here, 'sdjwt.node')]
+const done = spawnSync(process.env.CC ?? 'cc', words, { stdio: 'inherit' })
+if (done.status !== 0) refuse(done.error ? done.error.message : 'the compiler failed')
