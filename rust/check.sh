@@ -78,7 +78,8 @@ if [ -d /usr/share/cargo/registry ] && cargo fetch >/dev/null 2>&1; then
         for name in shared key_pairs; do
             test=$(cargo test --quiet --no-run --message-format=json --test "$name" |
                 sed -n 's/.*"executable":"\([^"]*\)".*/\1/p' | tail -n 1)
-            holds "valgrind: $name" valgrind --quiet --error-exitcode=9 --leak-check=full --main-stacksize=8388608 \
+            holds "valgrind: $name" valgrind --quiet --error-exitcode=9 --leak-check=full --show-leak-kinds=definite \
+                --errors-for-leak-kinds=definite --main-stacksize=8388608 \
                 "$test" --skip each_letter --test-threads 2
         done
     else

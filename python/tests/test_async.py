@@ -196,9 +196,10 @@ def test_a_call_that_is_cancelled():
 
 
 def test_a_call_that_is_cancelled_while_a_thread_runs_it():
-    released, ended = threading.Event(), []
+    entered, released, ended = threading.Event(), threading.Event(), []
 
     def check(question):
+        entered.set()
         released.wait(30)
         ended.append(True)
         return True
@@ -206,7 +207,7 @@ def test_a_call_that_is_cancelled_while_a_thread_runs_it():
     async def main():
         policy = sdjwt.Policy(NOBODY, check=check)
         waiting = asyncio.ensure_future(policy.verify_async(TOKEN))
-        await asyncio.sleep(0.05)
+        assert await asyncio.to_thread(entered.wait, 30)
         waiting.cancel()
         with pytest.raises(asyncio.CancelledError):
             await waiting

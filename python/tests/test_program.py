@@ -390,7 +390,8 @@ def test_ctrl_c_ends_it_without_a_traceback(ticket):
                 break
             except subprocess.TimeoutExpired:
                 pass
-        assert ran.wait(60) == 130 and b"Traceback" not in ran.stderr.read()
+        # the second of two signals may come when Python has ended
+        assert ran.wait(60) in (130, -signal.SIGINT) and b"Traceback" not in ran.stderr.read()
 
 
 def test_without_cryptography_it_says_what_is_missing(ticket, tmp_path):
@@ -499,9 +500,9 @@ def test_a_bug_is_no_refusal(keys, monkeypatch):
         raise RuntimeError("a bug")
     monkeypatch.setattr(sdjwt, "show", broken)
     with pytest.raises(RuntimeError):
-        keys("show", "e30.e30.AA~")
+        keys("show", "eyJ9.eyJ9.AA~")
     monkeypatch.setattr(sdjwt, "show", lambda *_, **__: (_ for _ in ()).throw(sdjwt.OutOfMemory("sdjwt: there is no memory")))
-    assert keys("show", "e30.e30.AA~").line == "memory"
+    assert keys("show", "eyJ9.eyJ9.AA~").line == "memory"
 
 
 def test_it_is_all_text_that_people_can_decode(ticket, keys):

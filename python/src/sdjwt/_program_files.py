@@ -11,7 +11,7 @@ from sdjwt._detail import FILE_MAX
 from sdjwt._program_faults import UNREAD, UNWRITTEN, Fault, usage
 
 # A compact token that stands in the place of a file name. A file of such a name can be written with ./ before it.
-_TOKEN = re.compile(r"ey[A-Za-z0-9_-]+\.[A-Za-z0-9_-]+\.[A-Za-z0-9_-]+~\S*")
+_TOKEN = re.compile(r"e[wy][A-Za-z0-9_-]+\.[A-Za-z0-9_-]+\.[A-Za-z0-9_-]+~\S*")
 # Characters that a terminal obeys, or that turn the direction of text or can't be seen.
 _UNSEEN = re.compile("[\x7f-\x9f\xad\u061c\u180e\u200b-\u200f\u2028-\u202e\u2060-\u206f\ufeff\ufff9-\ufffb\U000e0000-\U000e007f\ud800-\udfff]")
 # Who may read a file with a private key: its owner only.
