@@ -5,10 +5,10 @@
 #
 # So many seconds each of verify, judge, present, issue, ask, sign, step, sent, show, split, convert, audit, wallet,
 # policy, nonce and part, or of the calls that are named. It builds the library without proofs, with the counters by
-# which libFuzzer sees which code an input reaches; so it finds faults of the code and of what it stands on, and proves
-# nothing. It begins with the inputs of corpus.py, and what is found is kept in c/out/fuzz/CALL, where the next run goes on; with
-# --keep those inputs that reach other code than these, the smallest that do, go into c/fuzz/found.tar.xz. An input that
-# fails is left beside this corpus, and the status is not 0.
+# which libFuzzer sees which code an input reaches; so it finds faults of the code and of what it stands on, and
+# proves nothing. It begins with the inputs of corpus.py, and what is found is kept in c/out/fuzz/CALL, where the next
+# run goes on; with --keep those inputs that reach other code than these, the smallest that do, go into
+# c/fuzz/found.tar.xz. An input that fails is left beside this corpus, and the status is not 0.
 #
 # A call fails if it takes more than a second of the processor, or more than 64 MiB of memory at one time: fuzz.c
 # measures both. An input fails after twenty seconds by the clock, which a busy machine may need, and the whole process,
