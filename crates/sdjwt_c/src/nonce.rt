@@ -19,11 +19,7 @@ pub(crate) enum NonceError {
 }
 
 // Asks for this nonce in the key binding token, in the place of the one before.
-pub(crate) fn set_nonce(
-    alloc: Global,
-    policy: &mut Policy,
-    nonce: &str,
-) -> Result<(), NonceError>
+pub(crate) fn set_nonce(alloc: Global, policy: &mut Policy, nonce: &str) -> Result<(), NonceError>
     ensures ok { OnOk result (policy.new ≡ with_nonce policy.old nonce.now) }
     ensures no_binding { IsErrOf result NonceError.NoBinding ↔ IsNone policy.old.binding }
     ensures too_long { IsErrOf result NonceError.TooLong
