@@ -263,10 +263,6 @@ def totals(core, where):
     return sum(len(row[2]) for row in rows), sum(lines_of(row[2]) for row in rows), len(rows)
 
 
-# Modules that left the core and do not say so yet: what is said there is in the library that all crates above read, so
-# they are proved anew for it, and it waits for the next change of its crate.
-WAITING = {("hmac_sign", "Agreement")}
-
 
 def mistold(core):
     """The modules of specs/ that are of the core and say that they are not, or are not and do not say so."""
@@ -274,8 +270,7 @@ def mistold(core):
     for crate in CRATES:
         for path in sorted((TOP / "crates" / crate / "specs").glob("*.antt")):
             says_so = path.read_text(encoding="utf-8").startswith(("-- For ", "-- Not needed to believe "))
-            known = path.stem == "Lib" or (crate, path.stem) in WAITING
-            if not known and says_so == ((crate, path.stem) in inside):
+            if path.stem != "Lib" and says_so == ((crate, path.stem) in inside):
                 is_so = "of the core, and says that it is not" if says_so else "not of the core, and does not say so"
                 yield f"{crate} {path.stem} is {is_so}"
 

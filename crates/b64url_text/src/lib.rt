@@ -9,8 +9,6 @@ mod codec;
 mod errors;
 mod lanes;
 pub mod laws;
-#[cfg(test)]
-mod tests;
 mod word;
 
 pub use codec::{decode, decode_into, encode};

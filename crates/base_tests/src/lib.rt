@@ -3,6 +3,8 @@
 #![tactic(auto)]
 
 #[cfg(test)]
+mod b64url_tests;
+#[cfg(test)]
 mod compact_tests;
 #[cfg(test)]
 mod disclosure_tests;
@@ -11,11 +13,17 @@ mod from_text;
 #[cfg(test)]
 mod hmac_tests;
 #[cfg(test)]
+mod index_tests;
+#[cfg(test)]
 mod json_form_tests;
 #[cfg(test)]
 mod jws_tests;
 #[cfg(test)]
+mod key_set_tests;
+#[cfg(test)]
 mod marked_tests;
+#[cfg(test)]
+mod outside_tests;
 #[cfg(test)]
 mod pointer_tests;
 #[cfg(test)]

@@ -7,8 +7,6 @@
 mod index;
 mod seeded;
 mod steps;
-#[cfg(test)]
-mod tests;
 
 pub use index::DigestIndex;
 pub use seeded::Seeded;

@@ -1,4 +1,4 @@
--- Signers that mean the same.
+-- Not needed to believe the program's promises: signers that mean the same.
 use Rattle.std.specs.Prelude.{◌≡◌, ◌≤◌, ◌↔◌, ℕ, List}
 use Rattle.b64url_text.specs.Base64url.{AreBytes}
 use Rattle.claim_tree.specs.Tree.{Text}

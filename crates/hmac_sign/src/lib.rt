@@ -15,8 +15,6 @@ mod hs256_key;
 mod hs_key;
 mod key_set;
 mod key_set_elements;
-#[cfg(test)]
-mod key_set_tests;
 mod keyed_hash;
 pub mod laws;
 mod mac_code;

@@ -20,8 +20,6 @@ mod memory_source;
 mod sink;
 mod source;
 mod status;
-#[cfg(test)]
-mod tests;
 mod text;
 
 pub use byte_box::ByteBox;

@@ -1,5 +1,5 @@
 // Tests of what lies outside, in memory and on the host.
-use crate::{
+use sd_outside::{
     ByteBox, Cabinet, Failed, FetchError, HostCabinet, HostSink, HostSource, MemCabinet, MemSink,
     MemSource, Sink, Source, TextBox, TextList,
 };

@@ -1,5 +1,5 @@
 // Tests of what no run of the program shows of base64url.
-use crate::{DecodeError, NotBase64, decode, decode_into, encode, is_word, word_len};
+use b64url_text::{DecodeError, NotBase64, decode, decode_into, encode, is_word, word_len};
 use std::test::Fail;
 
 #[test]

@@ -1,5 +1,5 @@
 // Tests of numbered texts and their seeds.
-use crate::{DigestIndex, Steps};
+use digest_index::{DigestIndex, Steps};
 use std::alloc::Global;
 use std::test::Fail;
 

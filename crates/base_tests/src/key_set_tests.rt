@@ -1,5 +1,5 @@
 // Tests of key sets that are read from texts.
-use crate::{Alg, HsKey, KeySet, KeySetError};
+use hmac_sign::{Alg, HsKey, KeySet, KeySetError};
 use claim_tree::read;
 use std::test::Fail;
 
