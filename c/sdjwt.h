@@ -1,41 +1,41 @@
 /*
  * sdjwt: SD-JWT (RFC 9901) for C, by the proved library.
  *
- * Each function is one command of the program sdjwt, or of sdjwt_tools, over the bytes of its files in the place of
- * their names. What the files are to have in them stands in docs/FILES.md, and docs/REFUSALS.md has each number by
- * which a call refuses. The library reads no file, no clock and no environment, keeps nothing between two calls, and
- * writes nothing but what its parameters point to.
+ * Each function is one command of the program sdjwt, or of sdjwt_tools. It takes the bytes of its files instead of
+ * their names. docs/FILES.md documents these files, and docs/REFUSALS.md explains each refusal by its number. The
+ * library reads no file, no clock and no environment variable. It keeps nothing between two calls, and writes only to
+ * the memory that its parameters point to.
  *
- * THE ANSWER goes to the caller's buffer `out`, which has room for `room` bytes, and its length to `*len`. It has no
- * zero byte behind it. A call that answers
+ * THE RESULT is written to your buffer `out`, which has `room` bytes, and its length to `*len`. No zero byte follows
+ * it. Each function returns one of these statuses:
  *
- *   SDJWT_DONE        wrote the answer whole: a text, and a line end behind it, except from sdjwt_issue_ask and the
- *                     calls whose names begin with sdjwt_question, whose answers have no line end;
- *   SDJWT_REFUSED     wrote a line that tells why, as "refused 10 badSignature\n";
- *   SDJWT_UNREADABLE  wrote a line that tells which of its first two inputs is not of its form, and why, as
- *                     "unreadable 1 notJson\n";
- *   SDJWT_UNWRITTEN   wrote nothing, since the room is too small: `*len` tells how much is needed. Call again with
- *                     that much. An answer is seldom longer than the inputs together with 256 bytes;
- *   SDJWT_USAGE       wrote nothing, since the caller broke a rule that stands at the function. `*len` is 0;
- *   SDJWT_MEMORY      wrote nothing, since malloc found no memory. `*len` is 0.
+ *   SDJWT_DONE        it wrote the whole result, which ends with a line end, except for sdjwt_issue_ask and the
+ *                     functions whose names begin with sdjwt_question;
+ *   SDJWT_REFUSED     it wrote a line with the reason, for example "refused 10 badSignature\n";
+ *   SDJWT_UNREADABLE  it wrote a line that says which of the first two inputs does not have its form, and why, for
+ *                     example "unreadable 1 notJson\n";
+ *   SDJWT_UNWRITTEN   it wrote nothing, because the buffer is too small. `*len` is the size that it needs: call again
+ *                     with a buffer of this size. The inputs together and 256 bytes are nearly always enough;
+ *   SDJWT_USAGE       it wrote nothing, because the caller broke a rule of the function. `*len` is 0;
+ *   SDJWT_MEMORY      it wrote nothing, because malloc failed. `*len` is 0.
  *
- * Some calls have further statuses: sdjwt_judge and sdjwt_policy_judge have SDJWT_ASKS and SDJWT_NOT_ASKED,
- * sdjwt_present_ask has SDJWT_ASKS and SDJWT_TO_SIGN, and sdjwt_question_text and the like have SDJWT_MISSING. What
- * lies behind the answer in `out` stays as it was, also where the status is not SDJWT_DONE: look at no more than `*len`
- * bytes, and at none where nothing was written.
+ * Some functions have more statuses: sdjwt_judge and sdjwt_policy_judge have SDJWT_ASKS and SDJWT_NOT_ASKED,
+ * sdjwt_present_ask has SDJWT_ASKS and SDJWT_TO_SIGN, and the sdjwt_question functions have SDJWT_MISSING. Whatever the
+ * status, the bytes of `out` after the result are unchanged. Read only the first `*len` bytes, and none if nothing was
+ * written.
  *
- * POINTERS. None may be null, not even where its length is 0, except the one of sdjwt_policy_free: pass "" for an input
- * of no bytes, and any byte of yours for a buffer of no room. `*len` need not be set before the call. `out` and `len`
- * may overlap neither each other, nor an input, nor a handle; inputs may overlap. A length is at most 2^63 - 1. An
- * order, a policy, a query or a token of more than 16 MiB is refused.
+ * POINTERS. No pointer may be null, even if its length is 0, except in sdjwt_policy_free. Pass "" as an empty input,
+ * and the address of any byte of yours as an empty buffer. `*len` needs no value before the call. `out` and `len` may
+ * not overlap each other, an input or a handle; inputs may overlap each other. A length is at most 2^63 - 1. The
+ * library refuses an order, a policy, a query or a token of more than 16 MiB.
  *
- * THREADS. Each function may run on several threads at once, over buffers that they do not share. A handle of a policy
- * is for one call at a time: give each thread its own, or keep one behind a lock. It may move from thread to thread.
- * No function may be called from a signal handler, or from a forked child of a process with threads. A call needs up to
+ * THREADS. Every function may run on several threads at once, if they share no buffer. Use a handle of a policy in one
+ * call at a time: give each thread its own, or protect it with a lock. A handle may move from thread to thread. Do not
+ * call a function from a signal handler, or in a forked child of a process that has threads. A call needs up to
  * SDJWT_STACK bytes of stack.
  *
- * MEMORY. Only what a handle holds outlives its call. The library allocates by malloc, realloc and free of the program,
- * which are to be one allocator, and it copies keys: it does not wipe what it frees.
+ * MEMORY. Only the contents of a handle outlive a call. The library allocates with malloc, realloc and free of the
+ * program, which must be one allocator. It copies keys, and does not wipe the memory that it frees.
  */
 #ifndef SDJWT_H
 #define SDJWT_H
@@ -53,13 +53,13 @@ extern "C" {
 #define SDJWT_CHECKED
 #endif
 
-/* The version of this header. A library fits if sdjwt_abi_version() returns the same. */
+/* The version of this header. A library fits if sdjwt_abi_version() returns the same number. */
 #define SDJWT_ABI_VERSION 1
 
-/* Stack that is enough for each call, in bytes. */
+/* Stack that is enough for every call, in bytes. */
 #define SDJWT_STACK (1024 * 1024)
 
-/* The statuses. They are the exit statuses of the program sdjwt, of which 3 comes of a file that can't be read. */
+/* The statuses. They are the exit statuses of the program sdjwt, which also has 3, for a file that it cannot read. */
 #define SDJWT_DONE 0
 #define SDJWT_REFUSED 1
 #define SDJWT_USAGE 2
@@ -67,13 +67,13 @@ extern "C" {
 #define SDJWT_MEMORY 5
 #define SDJWT_UNREADABLE 6
 
-/* The statuses that only some calls have. The program has none of them. */
+/* Statuses of some functions only. The program has none of them. */
 #define SDJWT_ASKS 7
 #define SDJWT_NOT_ASKED 8
 #define SDJWT_TO_SIGN 9
 #define SDJWT_MISSING 10
 
-/* What is said of a signature, for sdjwt_judge, sdjwt_present_ask and sdjwt_present_sign. */
+/* Your report on a signature, for sdjwt_judge, sdjwt_present_ask and sdjwt_present_sign. */
 #define SDJWT_UNSAID 0
 #define SDJWT_UNKNOWN 1
 #define SDJWT_BAD 2
@@ -84,50 +84,49 @@ extern "C" {
 #define SDJWT_FLAT 1
 #define SDJWT_GENERAL 2
 
-/* The most tokens of a call of sdjwt_wallet. */
+/* The greatest number of tokens in a call of sdjwt_wallet. */
 #define SDJWT_TOKENS 64
 
 /* A status. */
 typedef uint8_t sdjwt_status;
 
-/* The version of what the library exports. It changes if a program that was compiled before no longer fits. */
+/* The version of the exported functions. It changes if a program that was compiled before no longer fits. */
 uint32_t sdjwt_abi_version(void);
 
-/* The version of the library, as "0.3.0". The string has a zero byte at its end and stays valid. */
+/* The version of the library, for example "0.3.0". The string ends with a zero byte and stays valid. */
 const char *sdjwt_version(void);
 
 /*
- * 1 if the library was built from proved crates, and 0 if it was built without proofs, for a first look. The library
- * says so of itself: whether you have the library that was built is what the checksums of a release are for.
+ * Returns 1 if the library was built from proved crates, and 0 if it was built without proofs, to try it out. This is a
+ * claim of the library itself: use the checksums of a release to see that a library is the one that was built.
  */
 int sdjwt_is_proved(void);
 
 /*
- * Issues the token of an order. The seed has 32 bytes or more, of which the first 32 are used: two seeds that differ
- * only behind them give the same salts. With fewer than 32 the status is SDJWT_UNREADABLE. Whoever knows the seed can
- * guess what is hidden: take it from the system's random numbers, and use none twice.
+ * Issues the token of an order. The seed must have 32 bytes or more: with fewer, the status is SDJWT_UNREADABLE. Only
+ * the first 32 are used, so two seeds with the same first 32 bytes give the same salts. Anyone who knows the seed can
+ * guess the hidden claims: take it from the system's random numbers, and use it for one token only.
  */
 SDJWT_CHECKED sdjwt_status sdjwt_issue(const uint8_t *order, size_t order_len,
                                        const uint8_t *seed, size_t seed_len,
                                        uint8_t *out, size_t room, size_t *len);
 
 /*
- * The text that is to be signed of a token, for a signature that you make: with a public key's private half, in OpenSSL
- * or in a secure element. Then sdjwt_issue_sign puts your signature to it. Nothing is kept between the two calls: each
- * lays out the order anew, so give both the same order, algorithm and seed.
+ * Writes the bytes to sign for a token whose signature you make with a private key, in OpenSSL or in an HSM. Pass the
+ * signature to sdjwt_issue_sign. The library keeps nothing between the two calls and makes the token anew in each: pass
+ * the same order, algorithm and seed to both.
  *
- * The order is that of sdjwt_issue without `key` and `alg`: with one of them the line is "unreadable 1 unknown". `alg`
- * is the name of your algorithm, as "ES256", which the header of the token tells (RFC 7515 section 4.1.1). Where it is
- * no UTF-8 text, of no bytes, or "none", the status is SDJWT_USAGE; of all other names none is known here, and each is
- * taken. The seed is that of sdjwt_issue: secret, and used for one token alone, though for both calls. Of one that is
- * too short the line is "unreadable 2 short".
+ * The order is that of sdjwt_issue without `key` and `alg`; with one of them the line is "unreadable 1 unknown". `alg`
+ * is the name of your algorithm, for example "ES256", and becomes the `alg` of the token's header (RFC 7515 section
+ * 4.1.1). If it is not UTF-8, is empty, or is "none", the status is SDJWT_USAGE; any other name is accepted. The seed
+ * is that of sdjwt_issue: keep it secret, use it for one token only, and pass it to both calls. If it is too short, the
+ * line is "unreadable 2 short".
  *
- * The answer is the header and the payload with a full stop between them, and NO line end behind it. Of the refusals 51
- * to 61 each comes here but 61, on the length of the token, which has no signature yet.
+ * The result is the header, a full stop and the payload, with NO line end. Any of the refusals 51 to 60 comes here. 61,
+ * about the length of the token, comes from sdjwt_issue_sign.
  *
- * YOU ANSWER for the signature, which the library can't check. Sign just the `*len` bytes of the answer, with the
- * private key of the algorithm that you named. Let this key sign by no other algorithm, and nothing but tokens of
- * yours.
+ * YOU ARE RESPONSIBLE for the signature, which the library cannot check. Sign exactly the `*len` bytes of the result,
+ * with the private key of the algorithm that you named. Use this key for no other algorithm, and only for your tokens.
  */
 SDJWT_CHECKED sdjwt_status sdjwt_issue_ask(const uint8_t *order, size_t order_len,
                                            const uint8_t *alg, size_t alg_len,
@@ -135,9 +134,9 @@ SDJWT_CHECKED sdjwt_status sdjwt_issue_ask(const uint8_t *order, size_t order_le
                                            uint8_t *out, size_t room, size_t *len);
 
 /*
- * The token of the same order, algorithm and seed, with this signature of what sdjwt_issue_ask answers. It is the bytes
- * of the signature as a JWS has them, before base64url: of ES256 the 64 bytes of r and s (RFC 7518 section 3.4), and
- * not the DER that OpenSSL writes. Of no bytes the status is SDJWT_USAGE.
+ * Writes the token of the same order, algorithm and seed, with your signature of the bytes that sdjwt_issue_ask wrote.
+ * Pass the signature as the bytes that a JWS encodes in base64url: for ES256 the 64 bytes of r and s (RFC 7518 section
+ * 3.4), not the DER that OpenSSL writes. If it is empty, the status is SDJWT_USAGE.
  */
 SDJWT_CHECKED sdjwt_status sdjwt_issue_sign(const uint8_t *order, size_t order_len,
                                             const uint8_t *alg, size_t alg_len,
@@ -145,37 +144,40 @@ SDJWT_CHECKED sdjwt_status sdjwt_issue_sign(const uint8_t *order, size_t order_l
                                             const uint8_t *signature, size_t signature_len,
                                             uint8_t *out, size_t room, size_t *len);
 
-/* Presents what an order asks for of a token, at a moment in seconds since 1970, which a key binding token tells. */
+/*
+ * Presents the claims of a token that an order requests. `now` is the time in seconds since 1970; a key binding token
+ * contains it.
+ */
 SDJWT_CHECKED sdjwt_status sdjwt_present(const uint8_t *order, size_t order_len,
                                          const uint8_t *token, size_t token_len, uint64_t now,
                                          uint8_t *out, size_t room, size_t *len);
 
 /*
- * The next step of presenting a token, where you check the issuer's signature and make the holder's: for algorithms
- * whose keys the library does not hold, as ES256 and EdDSA. Call with SDJWT_UNSAID, and again with what you found out
- * where it asks:
+ * Does the next step of presenting a token if you check the issuer's signature and make the holder's: for algorithms
+ * whose keys the library does not hold, such as ES256 and EdDSA. Call it with SDJWT_UNSAID, and again with your report
+ * if it asks:
  *
- *   SDJWT_ASKS        wrote the question about the issuer's signature, of the form that sdjwt_judge has for it. Take
- *                     what you need out of it by sdjwt_question_text, sdjwt_question_signature and the like;
- *   SDJWT_TO_SIGN     wrote the text of the key binding token that the order asks for: sign it, and call
- *                     sdjwt_present_sign. There is NO line end behind it. Nothing is presented yet;
- *   SDJWT_DONE        wrote what is presented, as sdjwt_present does: the order asks for no key binding token;
- *   SDJWT_REFUSED     the token is broken by what you said, or the order asks for what can't be shown.
+ *   SDJWT_ASKS        it wrote the question about the issuer's signature, in the form that sdjwt_judge documents. Get
+ *                     the parts that you need with sdjwt_question_text, sdjwt_question_signature and so on;
+ *   SDJWT_TO_SIGN     it wrote the bytes to sign for the key binding token that the order requests, with NO line end:
+ *                     sign them, and call sdjwt_present_sign. This is not yet a presentation;
+ *   SDJWT_DONE        it wrote the presentation, as sdjwt_present does: the order requests no key binding token;
+ *   SDJWT_REFUSED     the token is invalid according to your report, or the order requests claims that cannot be shown.
  *
- * `issuer` is what you say of the issuer's signature: SDJWT_UNKNOWN (you have no key for it), SDJWT_BAD, or SDJWT_GOOD.
- * Of another number than these and SDJWT_UNSAID the status is SDJWT_USAGE. What is said unasked is not looked at. No
- * call keeps anything, so give each the same order, token and moment, and what you said before.
+ * `issuer` is your report on the issuer's signature: SDJWT_UNKNOWN (you have no key for it), SDJWT_BAD or SDJWT_GOOD.
+ * If it is neither one of these nor SDJWT_UNSAID, the status is SDJWT_USAGE. A report without a question is ignored. No
+ * call keeps anything: pass the same order, token and time each time, and your earlier report.
  *
- * The order is that of sdjwt_present without its two keys. In the place of `keys` it must have `algs`, a list of the
- * algorithms that you take of the issuer, as in "algs": ["ES256"]; "none" and "" are never taken, also where they
- * stand there. `want` and `never` are as ever. A `binding` has `aud`, `nonce` and `alg`, the name of the algorithm by
- * which you sign, and no `key`; it may have `kid`, and then the claim `cnf` of what is shown has to name this key.
- * Where it has none, that the key is the one of `cnf` is yours to know.
+ * The order is that of sdjwt_present without its two keys. Instead of `keys` it must have `algs`, an array of the
+ * algorithms that you accept from the issuer, for example "algs": ["ES256"]; "none" and "" are never accepted, even if
+ * the array has them. `want` and `never` are unchanged. A `binding` has `aud`, `nonce` and `alg`, the name of the
+ * algorithm that you sign with, and no `key`. It may have `kid`: the claim `cnf` of the presentation must then name
+ * this key. Without `kid` you must make sure yourself that the key is the one in `cnf`.
  *
- * YOU ANSWER for your word and your signature. Say SDJWT_GOOD only where you checked `signature` over just the bytes of
- * `text`, with the algorithm `alg`, under a key of the issuer's that you had before the token came and whose type fits
- * `alg`: never check an HMAC, such as HS256, under a public key. Sign just the `*len` bytes of the answer, once the
- * order is what its user agreed to: whoever sees it learns what is shown.
+ * YOU ARE RESPONSIBLE for your report and your signature. Report SDJWT_GOOD only if you checked `signature` over
+ * exactly the bytes of `text`, with the algorithm `alg`, under a key of the issuer that you had before the token came
+ * and whose type fits `alg`: never check an HMAC, such as HS256, with a public key. Sign exactly the `*len` bytes of
+ * the result, after the user has agreed to the order: anyone who sees the presentation learns the claims in it.
  */
 SDJWT_CHECKED sdjwt_status sdjwt_present_ask(const uint8_t *order, size_t order_len,
                                              const uint8_t *token, size_t token_len, uint64_t now,
@@ -183,11 +185,11 @@ SDJWT_CHECKED sdjwt_status sdjwt_present_ask(const uint8_t *order, size_t order_
                                              uint8_t *out, size_t room, size_t *len);
 
 /*
- * What is presented for the same order, token, moment and word, with this signature of what sdjwt_present_ask answers:
- * the bytes as a JWS has them, before base64url (of ES256 the 64 bytes of r and s, RFC 7518 section 3.4). Of no bytes
- * the status is SDJWT_USAGE, and so it is with SDJWT_UNSAID or a number that says nothing. Of the refusals only 75 is
- * judged behind the signature: the presentation is too long with it. Where the order asks for no key binding token, the
- * signature is not looked at.
+ * Writes the presentation for the same order, token, time and report, with your signature of the bytes that
+ * sdjwt_present_ask wrote. Pass the signature as the bytes that a JWS encodes in base64url: for ES256 the 64 bytes of r
+ * and s (RFC 7518 section 3.4). If it is empty, or the report is SDJWT_UNSAID or invalid, the status is SDJWT_USAGE. Of
+ * all refusals only 75 depends on the signature: the presentation is too long with it. If the order requests no key
+ * binding token, the signature is ignored.
  */
 SDJWT_CHECKED sdjwt_status sdjwt_present_sign(const uint8_t *order, size_t order_len,
                                               const uint8_t *token, size_t token_len, uint64_t now,
@@ -196,42 +198,43 @@ SDJWT_CHECKED sdjwt_status sdjwt_present_sign(const uint8_t *order, size_t order
                                               uint8_t *out, size_t room, size_t *len);
 
 /*
- * Verifies a presentation under a policy, at a moment in seconds since 1970. The answer is the processed payload, as a
- * line of JSON. Where many tokens come under one policy, sdjwt_policy_verify is faster.
+ * Verifies a presentation under a policy. `now` is the time in seconds since 1970. The result is the processed payload,
+ * as one line of JSON. If you verify many tokens under one policy, sdjwt_policy_verify is faster.
  */
 SDJWT_CHECKED sdjwt_status sdjwt_verify(const uint8_t *policy, size_t policy_len,
                                         const uint8_t *token, size_t token_len, uint64_t now,
                                         uint8_t *out, size_t room, size_t *len);
 
-/* The JSON inside a token, a line each. Nothing is checked: no signature, no digest, no time. */
+/* Writes the JSON inside a token, one line for each part. It checks nothing: no signature, no digest, no time. */
 SDJWT_CHECKED sdjwt_status sdjwt_show(const uint8_t *token, size_t token_len,
                                       uint8_t *out, size_t room, size_t *len);
 
-/* The texts of the parts of a token, a line each. Nothing is checked. */
+/* Writes the parts of a token as strings, one a line. It checks nothing. */
 SDJWT_CHECKED sdjwt_status sdjwt_split(const uint8_t *token, size_t token_len,
                                        uint8_t *out, size_t room, size_t *len);
 
 /*
- * The token in a form: SDJWT_COMPACT, SDJWT_FLAT or SDJWT_GENERAL. With another number the status is SDJWT_USAGE.
- * Nothing is checked.
+ * Writes the token in another form: SDJWT_COMPACT, SDJWT_FLAT or SDJWT_GENERAL. With any other number the status is
+ * SDJWT_USAGE. It checks nothing.
  */
 SDJWT_CHECKED sdjwt_status sdjwt_convert(uint8_t form, const uint8_t *token, size_t token_len,
                                          uint8_t *out, size_t room, size_t *len);
 
 /*
- * Audits a token for the order that it was issued for, as who has no seed can: the answer is the line "yes" where the
- * token is what the order asks for, signed with its key. Else the status is SDJWT_REFUSED, with the first that differs.
+ * Audits a token for the order that it was issued for, without the seed. If the token is what the order asks for,
+ * signed with the order's key, the result is the line "yes". Otherwise the status is SDJWT_REFUSED, and the line names
+ * the first difference.
  */
 SDJWT_CHECKED sdjwt_status sdjwt_audit(const uint8_t *order, size_t order_len,
                                        const uint8_t *token, size_t token_len,
                                        uint8_t *out, size_t room, size_t *len);
 
 /*
- * Shows, of the tokens that a holder has, the one that answers a query with the fewest disclosures. The tokens stand
- * one behind the other with nothing between them, and their lengths in `lengths`, an array of `count`. The lengths are
- * 1 to SDJWT_TOKENS, and make the whole of `tokens_len`: with others the status is SDJWT_USAGE. The answer has two
- * lines: the number of the token, counted from 0, as "credential 1\n", and the text of what is shown. Where no token
- * answers the query, the status is SDJWT_REFUSED.
+ * Presents, out of several tokens of a holder, the one that matches a query with the fewest disclosures. The tokens are
+ * concatenated, and `lengths` is an array of their `count` lengths. `count` is 1 to SDJWT_TOKENS, and the lengths must
+ * add up to `tokens_len`; otherwise the status is SDJWT_USAGE. The result has two lines: the number of the token,
+ * counted from 0, for example "credential 1\n", and the presentation. If no token matches the query, the status is
+ * SDJWT_REFUSED.
  */
 SDJWT_CHECKED sdjwt_status sdjwt_wallet(const uint8_t *query, size_t query_len,
                                         const uint8_t *tokens, size_t tokens_len,
@@ -239,8 +242,8 @@ SDJWT_CHECKED sdjwt_status sdjwt_wallet(const uint8_t *query, size_t query_len,
                                         uint8_t *out, size_t room, size_t *len);
 
 /*
- * A handle of a policy that is read once. Begin with SDJWT_POLICY_INIT, look at no field, and end with
- * sdjwt_policy_free. It may be moved by copying its bytes, if only one of the two is used from then on.
+ * A handle of a policy that is read once. Initialize it with SDJWT_POLICY_INIT, do not use its field, and free it with
+ * sdjwt_policy_free. You may move it by copying its bytes, if you use only the copy afterwards.
  */
 typedef struct sdjwt_policy {
     void *held;
@@ -249,64 +252,68 @@ typedef struct sdjwt_policy {
 #define SDJWT_POLICY_INIT {NULL}
 
 /*
- * Reads a policy into a handle, in place of one that the handle held, which is freed. The answer is empty. With another
- * status than SDJWT_DONE the handle holds what it held before.
+ * Reads a policy into a handle, and frees the policy that it held before. The result is empty. If the status is not
+ * SDJWT_DONE, the handle keeps its earlier policy.
  */
 SDJWT_CHECKED sdjwt_status sdjwt_policy_new(sdjwt_policy *handle,
                                             const uint8_t *policy, size_t policy_len,
                                             uint8_t *out, size_t room, size_t *len);
 
 /*
- * Sets the nonce that the policy of a handle wants of a key binding token, for the calls that follow, so that each
- * presentation can answer a nonce of its own under a policy that is read once. All else of the policy stays. It writes
- * no text, so it has no buffer: with SDJWT_DONE the nonce is set, and with another status the policy is as it was.
+ * Sets the nonce that the policy in a handle requires of a key binding token. It holds for the calls that follow, so
+ * that each presentation answers a nonce of its own and the policy is still read once. The rest of the policy is
+ * unchanged. This function writes no result and so takes no buffer. If the status is not SDJWT_DONE, the policy is
+ * unchanged.
  *
- *   SDJWT_USAGE       the handle holds no policy, its policy has no `binding`, or the nonce is not UTF-8 or has more
+ *   SDJWT_USAGE       the handle holds no policy, its policy has no `binding`, or the nonce is not UTF-8 or is longer
  *                     than 256 bytes;
- *   SDJWT_MEMORY      malloc found no memory.
+ *   SDJWT_MEMORY      malloc failed.
  */
 SDJWT_CHECKED sdjwt_status sdjwt_policy_nonce(sdjwt_policy *handle, const uint8_t *nonce, size_t nonce_len);
 
 /*
- * Verifies a presentation as sdjwt_verify does, under the policy of a handle. Where that holds none, the status is
- * SDJWT_USAGE.
+ * Verifies a presentation as sdjwt_verify does, under the policy in a handle. If the handle holds no policy, the status
+ * is SDJWT_USAGE.
  */
 SDJWT_CHECKED sdjwt_status sdjwt_policy_verify(sdjwt_policy *handle,
                                                const uint8_t *token, size_t token_len, uint64_t now,
                                                uint8_t *out, size_t room, size_t *len);
 
 /*
- * Verifies a presentation as sdjwt_verify does, but you check its signatures: for algorithms whose keys the library
- * does not hold, as ES256 and EdDSA. Call with SDJWT_UNSAID twice, and again with what you found out each time it asks:
+ * Verifies a presentation as sdjwt_verify does, except that you check its signatures: for algorithms whose keys the
+ * library does not hold, such as ES256 and EdDSA. Call it with SDJWT_UNSAID twice, and again with your report each time
+ * it asks:
  *
- *   SDJWT_ASKS        wrote a question, as a line of JSON: an object with the strings `alg`; `ask`, which is "issuer"
- *                     or "holder"; `kid`, if the header has it; `signature`, in base64url without padding; `text`,
- *                     whose bytes are what was signed; `typ`, if the header has it; and for the holder with `payload`,
- *                     the processed payload, whose claim `cnf` names the key. The members are in this order, so that no
- *                     claim of `payload` comes before what you are to check. Take what you need out of it by
- *                     sdjwt_question_text, sdjwt_question_signature and the like. Nothing is accepted yet;
- *   SDJWT_DONE        the token is accepted, and the answer is that of sdjwt_verify;
- *   SDJWT_REFUSED     it is refused, by the line that sdjwt_verify would write under what you said;
- *   SDJWT_NOT_ASKED   wrote the line "notAsked\n": you said something that was not asked for. It is no verdict.
+ *   SDJWT_ASKS        it wrote a question, as one line of JSON: an object with the strings `alg`; `ask`, which is
+ *                     "issuer" or "holder"; `kid`, if the header has it; `signature`, in base64url without padding;
+ *                     `text`, whose bytes are the ones that were signed; `typ`, if the header has it; and, for the
+ *                     holder only, the object `payload`, the processed payload, whose claim `cnf` names the key. The
+ *                     members are in this order, so that no claim of `payload` precedes the members that you check. Get
+ *                     the parts that you need with sdjwt_question_text, sdjwt_question_signature and so on. Nothing is
+ *                     accepted yet;
+ *   SDJWT_DONE        the token is accepted, and the result is that of sdjwt_verify;
+ *   SDJWT_REFUSED     the token is refused, with the line that sdjwt_verify would write under your reports;
+ *   SDJWT_NOT_ASKED   it wrote the line "notAsked\n": you reported on a signature without a question. There is no
+ *                     verdict.
  *
- * `issuer` and `holder` are what you say of the two signatures: SDJWT_UNKNOWN (you have no key for it), SDJWT_BAD, or
- * SDJWT_GOOD. First comes that of the issuer; where you said SDJWT_GOOD of it and the policy has a `binding`, that of
- * the holder. With other numbers, or with a word on the holder where that on the issuer is not SDJWT_GOOD, the status
- * is SDJWT_USAGE. A question repeats what you are to check, and no call keeps anything, so give each call the same
- * policy, algorithms, token and moment.
+ * `issuer` and `holder` are your reports on the two signatures: SDJWT_UNKNOWN (you have no key for it), SDJWT_BAD or
+ * SDJWT_GOOD. The issuer's comes first. If it is SDJWT_GOOD and the policy has a `binding`, the holder's follows. With
+ * any other number, or with a report on the holder if the one on the issuer is not SDJWT_GOOD, the status is
+ * SDJWT_USAGE. No call keeps anything: pass the same policy, algorithms, token and time each time.
  *
- * The policy is that of sdjwt_verify. Its keys are not looked at, nor are those of its binding. Its `algs` are the
- * algorithms that you take of the issuer, and `algs` is a JSON list of those that you take of the holder, as
- * "[\"ES256\"]"; of no bytes it stands for the `algs` of the policy. Where it is no list of texts, the line is
- * "unreadable 2 wrong algs\n". "none" and "" are never taken, also where they stand there.
+ * The policy is that of sdjwt_verify, but its keys and those of its `binding` are not used. Its `algs` are the
+ * algorithms that you accept from the issuer. The parameter `algs` is a JSON array of those that you accept from the
+ * holder, for example "[\"ES256\"]"; if it is empty, the policy's `algs` apply. If it is not an array of strings, the
+ * line is "unreadable 2 wrong algs\n". "none" and "" are never accepted, even if an array has them.
  *
- * YOU ANSWER for your word. Say SDJWT_GOOD only where you checked `signature` over just the bytes of `text`, with the
- * algorithm `alg`, under a key that you trust and that serves this algorithm: for the issuer one that you had before
- * the token came, and for the holder that of `cnf` in the `payload` of the question. Take no key out of a header.
+ * YOU ARE RESPONSIBLE for your reports. Report SDJWT_GOOD only if you checked `signature` over exactly the bytes of
+ * `text`, with the algorithm `alg`, under a key that you trust and that is for this algorithm: for the issuer a key
+ * that you had before the token came, and for the holder the key of `cnf` in `payload` of the question. Use no key from
+ * a header.
  *
  * SELECT THE KEY BY `alg` AND BY ITS TYPE. If a list names an HMAC, such as HS256, you are asked about it too, and a
- * policy without `algs` lists HS256. Check an HMAC only under a key that was made for HMAC: never under the bytes of a
- * public key, which everybody has (RFC 8725 section 3.1), and never under a secret that is in the token. If all your
+ * policy without `algs` lists HS256. Check an HMAC only with a key that was made for HMAC: never with the bytes of a
+ * public key, which everybody has (RFC 8725 section 3.1), and never with a secret that is in the token. If all your
  * keys are public, list no HMAC.
  */
 SDJWT_CHECKED sdjwt_status sdjwt_judge(const uint8_t *policy, size_t policy_len,
@@ -315,7 +322,7 @@ SDJWT_CHECKED sdjwt_status sdjwt_judge(const uint8_t *policy, size_t policy_len,
                                        uint8_t issuer, uint8_t holder,
                                        uint8_t *out, size_t room, size_t *len);
 
-/* The same under the policy of a handle. Where that holds none, the status is SDJWT_USAGE. */
+/* Does the same under the policy in a handle. If the handle holds no policy, the status is SDJWT_USAGE. */
 SDJWT_CHECKED sdjwt_status sdjwt_policy_judge(sdjwt_policy *handle,
                                               const uint8_t *algs, size_t algs_len,
                                               const uint8_t *token, size_t token_len, uint64_t now,
@@ -323,25 +330,25 @@ SDJWT_CHECKED sdjwt_status sdjwt_policy_judge(sdjwt_policy *handle,
                                               uint8_t *out, size_t room, size_t *len);
 
 /*
- * What you need of a question, that is the `*len` bytes that came with SDJWT_ASKS. With these calls you need no reader
- * of JSON. Each writes one part of the question, with no line end:
+ * These functions write one part of a question, so that you need no JSON parser. A question is the `*len` bytes that
+ * came with SDJWT_ASKS. The part has no line end:
  *
- *   sdjwt_question_text       what was signed: check the signature over just these bytes;
- *   sdjwt_question_signature  the signature, decoded from base64url: of ES256 the 64 bytes of r and s (RFC 7518 section
- *                             3.4), and not the DER that OpenSSL takes;
+ *   sdjwt_question_text       the signed bytes: check the signature over exactly these;
+ *   sdjwt_question_signature  the signature, decoded from base64url: for ES256 the 64 bytes of r and s (RFC 7518
+ *                             section 3.4), not the DER that OpenSSL reads;
  *   sdjwt_question_alg        the algorithm that the header names;
- *   sdjwt_question_kid        the name of the key in the header, which need not be there;
- *   sdjwt_question_at         the string at a JSON Pointer (RFC 6901) into the question: "/payload/cnf/jwk/x" is the
- *                             member `x` of the holder's key.
+ *   sdjwt_question_kid        the name of the key, if the header has one;
+ *   sdjwt_question_at         the string at a JSON Pointer (RFC 6901) into the question, for example
+ *                             "/payload/cnf/jwk/x", the member `x` of the holder's key.
  *
- *   SDJWT_DONE        wrote the part;
- *   SDJWT_MISSING     wrote nothing: the question has no such string. `*len` is 0;
- *   SDJWT_UNREADABLE  wrote a line: the bytes are no question, for example "unreadable 1 notJson\n";
- *   SDJWT_UNWRITTEN and SDJWT_MEMORY, as with every call;
- *   SDJWT_USAGE       comes from sdjwt_question_at alone: the pointer is not UTF-8.
+ *   SDJWT_DONE        it wrote the part;
+ *   SDJWT_MISSING     it wrote nothing: the question has no such string. `*len` is 0;
+ *   SDJWT_UNREADABLE  it wrote a line: the bytes are not a question, for example "unreadable 1 notJson\n";
+ *   SDJWT_UNWRITTEN and SDJWT_MEMORY, as in every function;
+ *   SDJWT_USAGE       from sdjwt_question_at only: the pointer is not UTF-8.
  *
- * Each string is written in UTF-8, without the quotes and escapes of JSON. It comes from whoever made the token, and it
- * may have zero bytes: compare it with its length.
+ * A string is written in UTF-8, without the quotes and escapes of JSON. Its value is chosen by the maker of the token
+ * and may contain zero bytes: compare it together with its length.
  */
 SDJWT_CHECKED sdjwt_status sdjwt_question_text(const uint8_t *question, size_t question_len,
                                                uint8_t *out, size_t room, size_t *len);
@@ -356,7 +363,7 @@ SDJWT_CHECKED sdjwt_status sdjwt_question_at(const uint8_t *question, size_t que
                                              uint8_t *out, size_t room, size_t *len);
 
 /*
- * Frees what a handle holds. It holds nothing from then on, so to free it once more does nothing, and neither does
+ * Frees the policy of a handle, which is then empty: freeing it again does nothing, and neither does
  * sdjwt_policy_free(NULL).
  */
 void sdjwt_policy_free(sdjwt_policy *handle);
