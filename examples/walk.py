@@ -4,9 +4,9 @@
     python3 examples/walk.py PROGRAM      PROGRAM is sdjwt (as demo.sh or look.sh builds it) or sdjwt-keys
 
 The walk of sdjwt is docs/WALK.md, and that of sdjwt-keys is the section "A walk" of README.md. A line after `$ ` in a
-fenced block is a command, which goes on after a backslash at its end, and the lines below it are its output. The
-commands run in an empty folder, or in a copy of examples/walk if the page says how to make one. In an output `..`
-stands for the rest of a base64 string, and a line `..` for any lines.
+fenced block is a command, which goes on after a backslash at its end and inside single quotes, and the lines below it
+are its output. The commands run in an empty folder, or in a copy of examples/walk if the page says how to make one. In
+an output `..` stands for the rest of a base64 string, and a line `..` for any lines.
 """
 import os
 import re
@@ -30,6 +30,11 @@ def walk_of(name):
     return re.split(rf"^{level} ", walk, maxsplit=2, flags=re.M)[1]
 
 
+def is_open(command):
+    """Whether a command goes on in the next line."""
+    return command.endswith("\\") or command.count("'") % 2 == 1
+
+
 def steps(text):
     """Each command with the lines that it prints."""
     found, fenced = [], False
@@ -38,7 +43,7 @@ def steps(text):
             fenced = not fenced
         elif fenced and line.startswith("$ "):
             found.append((line[2:], []))
-        elif fenced and found[-1][0].endswith("\\") and not found[-1][1]:
+        elif fenced and not found[-1][1] and is_open(found[-1][0]):
             found[-1] = (found[-1][0] + "\n" + line, [])
         elif fenced:
             found[-1][1].append(line)
