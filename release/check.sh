@@ -148,7 +148,7 @@ done
 # The wheel with its extra, by a README. What the extra needs is not installed with it.
 whole=$(sed -n '1s/^sdjwt //p' "$out/PROVENANCE")
 with_keys() {
-    wheel=$(sed -n 's/^    pip install \(.*\[keys\].*\)$/\1/p' "$1" | sed "s/sdjwt-$version-/sdjwt-$whole-/")
+    wheel=$(sed -n 's/^ *pip install \(.*\[keys\].*\)$/\1/p' "$1" | sed "s/sdjwt-$version-/sdjwt-$whole-/")
     [ -n "$wheel" ] && (cd "$out" && sh -c "python3 -m pip install --no-index --no-deps --disable-pip-version-check \
         --root-user-action ignore --target '$made/keys' $wheel") && rm -r "$made/keys"
 }
@@ -335,9 +335,10 @@ if [ "$bare_made" = yes ]; then
 
     # The archive, by the words of its README.
     readme=$(echo "$made"/archive/*/README.md)
-    awk '/^## / { on = $0 == "## Install"; seen = 0 } on && /^    / { seen = 1; print; next } on && seen { exit }' \
-        "$readme" | sed 's/^    sudo /    /' >"$bare/srv/install"
-    awk '/^## / { on = $0 == "## First commands"; next } on && /^    / { print }' "$readme" >"$bare/srv/first"
+    awk '/^## / { on = $0 == "## Install" } on && /^```/ { if (code++) exit; next } on && code' "$readme" |
+        sed 's/^sudo //' >"$bare/srv/install"
+    awk '/^## / { on = $0 == "## First commands" } on && /^```/ { code = !code; next } on && code' "$readme" \
+        >"$bare/srv/first"
     # shellcheck disable=SC2016
     said=$(sed -n 's/^The last prints `\(.*\)`\. .*/\1/p' "$readme")
     holds 'archive: installed by its README.md' inside 'cd /srv/files; sh -eu /srv/install; ldconfig
