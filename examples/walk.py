@@ -4,9 +4,9 @@
     python3 examples/walk.py PROGRAM      PROGRAM is sdjwt (as demo.sh or look.sh builds it) or sdjwt-keys
 
 The walk of sdjwt is docs/WALK.md, and that of sdjwt-keys is the section "A walk" of README.md. A line after `$ ` in a
-fenced block is a command, which goes on after a backslash at its end and inside single quotes, and the lines below it
-are its output. The commands run in an empty folder, or in a copy of examples/walk if the page says how to make one. In
-an output `..` stands for the rest of a base64 string, and a line `..` for any lines.
+block of `console` is a command, which goes on after a backslash at its end and inside single quotes, and the lines
+below it are its output. The commands run in an empty folder, or in a copy of examples/walk if the page says how to make
+one. In an output `..` stands for the rest of a base64 string, and a line `..` for any lines.
 """
 import os
 import re
@@ -40,7 +40,7 @@ def steps(text):
     found, fenced = [], False
     for line in text.splitlines():
         if line.startswith("```"):
-            fenced = not fenced
+            fenced = line == "```console"
         elif fenced and line.startswith("$ "):
             found.append((line[2:], []))
         elif fenced and not found[-1][1] and is_open(found[-1][0]):
@@ -69,7 +69,7 @@ def follow(name, program, walk, home):
     """How many commands there are, and how many of them print something else."""
     (home / "bin").mkdir()
     (home / "bin" / name).symlink_to(program)
-    copy = re.search(r"`(cp -r examples/walk [^`]*)`", walk)
+    copy = re.search(r"^(cp -r examples/walk .*)$", walk, re.M)
     folder = run(f"{copy[1] if copy else 'mkdir ~/walk; cd ~/walk'} && pwd", TOP, home).stdout.strip()
     wrong, all_steps = 0, steps(walk)
     for command, said in all_steps:
