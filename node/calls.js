@@ -14,8 +14,10 @@ export const OP = Object.freeze(Object.fromEntries([
 // The statuses of sdjwt.h.
 export const STATUS = Object.freeze({ done: 0, asks: 7, toSign: 9, missing: 10 })
 const REFUSED = 1, USAGE = 2, MEMORY = 5, UNREADABLE = 6
+// That of addon.c for a thread with too little stack.
+const NO_STACK = 255
 
-export const { version, isProved, newHandle } = addon
+export const { version, isProved, newHandle, freeHandle } = addon
 
 const text = new TextDecoder('utf-8', { fatal: true, ignoreBOM: true })
 const bytesOf = new TextEncoder()
@@ -26,7 +28,9 @@ export function line(answer) {
   return said.endsWith('\n') ? said.slice(0, -1) : said
 }
 
+/** The bytes of a string. */
 export function encoded(string) {
+  if (/\p{Surrogate}/u.test(string)) throw new RangeError('a string has half of a surrogate pair, which UTF-8 does not have')
   return bytesOf.encode(string)
 }
 
@@ -38,6 +42,7 @@ function judged({ status, answer }, misused) {
     case UNREADABLE: throw new Unreadable(line(answer))
     case USAGE: throw new RangeError(misused ?? 'an argument breaks a rule of the library')
     case MEMORY: throw new RangeError('the library found no memory')
+    case NO_STACK: throw new RangeError('a call needs 512 KiB of stack, and this thread has less left')
     default: throw new Error(`the library has an unknown status: ${status}`)
   }
 }

@@ -21,7 +21,7 @@ pub struct Policy {
     asked: Mutex<Vec<Handle>>,
 }
 
-/// A policy with the nonce of one presentation in the place of its own.
+/// A policy with the nonce of one presentation instead of its own.
 #[derive(Clone, Copy, Debug)]
 pub struct ForNonce<'a> {
     policy: &'a Policy,
@@ -138,6 +138,16 @@ impl fmt::Debug for Policy {
     fn fmt(&self, to: &mut fmt::Formatter<'_>) -> fmt::Result {
         to.debug_struct("Policy").finish_non_exhaustive()
     }
+}
+
+/// The claims of a token that a policy accepts now, in seconds since 1970. The policy's keys are symmetric. For many
+/// tokens keep a [`Policy`].
+///
+/// # Errors
+///
+/// The policy is [unreadable](Error::Unreadable), or the token is [refused](Error::Refused).
+pub fn verify(policy: impl Into<Vec<u8>>, token: impl AsRef<[u8]>, now: u64) -> Result<Claims, Error> {
+    Policy::new(policy)?.verify(token, now)
 }
 
 /// Keeps a handle for a later call.

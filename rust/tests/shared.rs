@@ -91,8 +91,10 @@ fn bytes_that_are_no_token() {
 fn errors_say_what_is_wrong() {
     let error = Policy::new("{").unwrap_err();
     assert!(error.to_string().starts_with("unreadable 1 notJson: "), "{error}");
-    let Error::Unreadable(unreadable) = &error else { panic!("{error}") };
-    assert_eq!((unreadable.input(), unreadable.reason()), (1, "notJson"));
+    match &error {
+        Error::Unreadable(unreadable) => assert_eq!((unreadable.input(), unreadable.reason()), (1, "notJson")),
+        other => panic!("{other}"),
+    }
     let error = sdjwt::present(format!(r#"{{"keys": {}, "want": ["/a b"]}}"#, key_set()), ticket("B12"), 0).unwrap_err();
     let refused = error.refused().unwrap();
     assert_eq!((refused.number(), refused.name(), refused.place()), (72, "wantedNotThere", Some("0")));
