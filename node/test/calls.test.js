@@ -1,6 +1,7 @@
 // Calls side by side, the event loop, numbers of 64 bits, and wrong hands.
 import assert from 'node:assert/strict'
 import { test } from 'node:test'
+import { readFileSync } from 'node:fs'
 import { Worker, isMainThread, parentPort } from 'node:worker_threads'
 import * as sdjwt from '../index.js'
 
@@ -44,6 +45,11 @@ if (!isMainThread) {
     await policy.verifyText(token)
     ended = true
     assert.ok(ticks > 10, `the loop turned ${ticks} times`)
+  })
+
+  test('the version is that of the library', () => {
+    assert.equal(sdjwt.version, JSON.parse(readFileSync(new URL('../package.json', import.meta.url))).version.split('+')[0])
+    assert.equal(typeof sdjwt.isProved, 'boolean')
   })
 
   test('worker threads', async () => {

@@ -1,5 +1,5 @@
-// A million random answers of `check`: each verdict is the one that follows from the answers, and each signature is asked
-// about once, the issuer's first. Half of the calls run in worker threads. ANSWERS is another number of them.
+// A million random results of `check`: each verdict is the one that follows from them, and each signature is asked about
+// once, the issuer's first. Three of four calls run in worker threads. ANSWERS is another number of them.
 import assert from 'node:assert/strict'
 import { test } from 'node:test'
 import { Worker, isMainThread, parentPort, workerData } from 'node:worker_threads'
@@ -121,7 +121,7 @@ if (!isMainThread) {
     }))
     const counts = await Promise.all([answers(ANSWERS - WORKERS * share, 7), ...workers])
     const count = counts.reduce((one, other) => one + other)
-    console.log(`${count} random answers of check`)
+    console.log(`${count} random results of check`)
     assert.equal(count, ANSWERS)
   })
 }

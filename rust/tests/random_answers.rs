@@ -119,6 +119,7 @@ fn a_million() {
             });
         }
     });
+    println!("{ANSWERS} random answers of check");
 }
 
 /// Each answer of each case, for a machine on which a million take long.
