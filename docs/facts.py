@@ -252,7 +252,8 @@ def check_versions():
 
 
 def main():
-    checks = (check_versions, check_numbers, check_limits, check_words, check_members, check_names, check_code, check_handed_on)
+    checks = (check_versions, check_numbers, check_limits, check_words, check_members, check_names, check_code,
+              check_handed_on)
     wrong = [line for check in checks for line in check()]
     counts = f"{len(rows())} numbers, {len(limits())} limits"
     print("\n".join(wrong) or f"documents, completions and manual pages agree with specs/: {counts}")

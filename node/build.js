@@ -11,12 +11,12 @@ const library = process.env.SDJWT_DIR ?? join(here, '../c/out')
 const roots = [join(dirname(process.execPath), '../include/node'), '/usr/include/node', '/usr/include/nodejs/src']
 const headers = roots.find((folder) => existsSync(join(folder, 'node_api.h')))
 
-function refuse(text) {
+function refuse(text, status = 1) {
   console.error(`build.js: ${text}`)
-  process.exit(1)
+  process.exit(status)
 }
 
-if (headers === undefined) refuse('the headers of node are not there: install libnode-dev, or node from nodejs.org')
+if (headers === undefined) refuse('the headers of node are not there: install libnode-dev, or node from nodejs.org', 3)
 if (!existsSync(join(library, 'lib/libsdjwt.a'))) refuse(`there is no lib/libsdjwt.a in ${library}: run sh c/build.sh`)
 const more = (process.env.CFLAGS ?? '').split(' ').filter((word) => word !== '')
 const words = ['-std=c11', '-O2', '-Wall', '-Wextra', '-fPIC', '-shared', `-I${headers}`, `-I${join(library, 'include')}`,

@@ -66,11 +66,12 @@ fi
 # By the commands of README.md, in an empty folder, with no compiler on the path and no network.
 installed() {
     mkdir "$made/path" && for tool in node npm sh env; do ln -s "$(command -v "$tool")" "$made/path/$tool"; done &&
-        cp "$made"/packed/sdjwt-*.tgz "$made/app/sdjwt-0.2.0.tgz" &&
+        name=$(sed -n 's|^npm install \./\(sdjwt-.*\.tgz\)$|\1|p' "$here/README.md") && [ -n "$name" ] &&
+        cp "$made"/packed/sdjwt-*.tgz "$made/app/$name" &&
         sed -n '/^npm i/p' "$here/README.md" >"$made/commands" && [ "$(wc -l <"$made/commands")" -eq 2 ] &&
         (cd "$made/app" && PATH=$made/path npm_config_offline=true npm_config_audit=false npm_config_fund=false \
             sh -eu "$made/commands" >/dev/null) &&
-        rm "$made/app/sdjwt-0.2.0.tgz" && ls "$made/app/node_modules/sdjwt/sdjwt.node" >/dev/null &&
+        rm "$made/app/$name" && ls "$made/app/node_modules/sdjwt/sdjwt.node" >/dev/null &&
         (cd "$made/app/node_modules/sdjwt" && ls LICENSE-MIT LICENSE-APACHE THIRD-PARTY.txt >/dev/null && find . -type f |
             wc -l | sed 's/$/ files/')
 }

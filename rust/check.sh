@@ -81,7 +81,8 @@ tested() {
 }
 first_minute() {
     mkdir "$made/first" "$made/first/src" &&
-        cp -R "$made/rust" "$made/sdjwt-0.2.0" &&
+        folder=$(sed -n 's|^sdjwt = { path = "../\(.*\)" }$|\1|p' README.md) && [ -n "$folder" ] &&
+        cp -R "$made/rust" "$made/$folder" &&
         printf '[package]\nname = "ticket"\nversion = "0.1.0"\nedition = "2021"\n\n' >"$made/first/Cargo.toml" &&
         sed -n '/^```toml$/,/^```$/p' README.md | sed '/^```/d' >>"$made/first/Cargo.toml" &&
         sed -n '/^```rust$/,/^```$/p' README.md | sed '1d; /^```/,$d' >"$made/first/src/main.rs" &&
