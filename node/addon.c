@@ -1,10 +1,11 @@
 /*
- * The calls of sdjwt.h for JavaScript, by Node-API. `run` makes one call on a thread of the pool and returns a promise of
- * its status and its answer; `runNow` makes it at once, for the short calls over a question. No rule of SD-JWT stands here.
+ * The calls of sdjwt.h for JavaScript, by Node-API. `run` makes one call on a thread of the pool and returns a promise
+ * of its status and its answer; `runNow` makes it at once, for the short calls over a question. No rule of SD-JWT
+ * stands here.
  *
- * A call is an object: `op` is the number of a call, as below; `inputs` are Uint8Arrays, which are copied before the call
- * begins; `now` is a BigInt; `issuer` and `holder` are numbers; `handle` is what newHandle() returned. Whoever calls sees
- * to it that a handle is in one call at a time (index.js keeps a pool of them).
+ * A call is an object: `op` is the number of a call, as below; `inputs` are Uint8Arrays, which are copied before the
+ * call begins; `now` is a BigInt; `issuer` and `holder` are numbers; `handle` is what newHandle() returned. Whoever
+ * calls sees to it that a handle is in one call at a time (index.js keeps a pool of them).
  */
 #define _GNU_SOURCE
 #include <node_api.h>
@@ -89,7 +90,8 @@ static sdjwt_status with_room(struct call *c, size_t room) {
         case POLICY_NONCE: *len = 0; return sdjwt_policy_nonce(c->handle, in[0], n[0]);
         case POLICY_VERIFY: return sdjwt_policy_verify(c->handle, in[0], n[0], c->now, out, room, len);
         case POLICY_JUDGE:
-            return sdjwt_policy_judge(c->handle, in[0], n[0], in[1], n[1], c->now, c->issuer, c->holder, out, room, len);
+            return sdjwt_policy_judge(c->handle, in[0], n[0], in[1], n[1], c->now, c->issuer, c->holder, out, room,
+                                      len);
         case QUESTION_TEXT: return sdjwt_question_text(in[0], n[0], out, room, len);
         case QUESTION_SIGNATURE: return sdjwt_question_signature(in[0], n[0], out, room, len);
         case QUESTION_ALG: return sdjwt_question_alg(in[0], n[0], out, room, len);
@@ -150,7 +152,8 @@ static bool member(napi_env env, napi_value object, const char *name, napi_value
 static bool copied(napi_env env, napi_value list, struct call *c) {
     uint32_t count;
     bool is_list;
-    if (napi_is_array(env, list, &is_list) != napi_ok || !is_list || napi_get_array_length(env, list, &count) != napi_ok)
+    if (napi_is_array(env, list, &is_list) != napi_ok || !is_list ||
+        napi_get_array_length(env, list, &count) != napi_ok)
         return false;
     if (c->op == WALLET ? count < 2 || count > INPUTS_MAX : count != inputs_of[c->op]) return false;
     size_t length = 0;

@@ -1,6 +1,6 @@
 // Compiles addon.c into sdjwt.node, with the C library inside, and puts the licences next to it: node build.js
-// SDJWT_DIR is the folder that c/build.sh leaves (by default ../c/out), CC the compiler, CFLAGS its further options. Nothing
-// is downloaded: the headers are those of the node that runs this.
+// SDJWT_DIR is the folder that c/build.sh leaves (by default ../c/out), CC the compiler, CFLAGS its further options.
+// Nothing is downloaded: the headers are those of the node that runs this.
 import { spawnSync } from 'node:child_process'
 import { copyFileSync, existsSync, writeFileSync } from 'node:fs'
 import { dirname, join } from 'node:path'
@@ -19,8 +19,9 @@ function refuse(text, status = 1) {
 if (headers === undefined) refuse('the headers of node are not there: install libnode-dev, or node from nodejs.org', 3)
 if (!existsSync(join(library, 'lib/libsdjwt.a'))) refuse(`there is no lib/libsdjwt.a in ${library}: run sh c/build.sh`)
 const more = (process.env.CFLAGS ?? '').split(' ').filter((word) => word !== '')
-const words = ['-std=c11', '-O2', '-Wall', '-Wextra', '-fPIC', '-shared', `-I${headers}`, `-I${join(library, 'include')}`,
-  ...more, join(here, 'addon.c'), join(library, 'lib/libsdjwt.a'), '-o', join(here, 'sdjwt.node')]
+const words = ['-std=c11', '-O2', '-Wall', '-Wextra', '-fPIC', '-shared', `-I${headers}`,
+  `-I${join(library, 'include')}`, ...more, join(here, 'addon.c'), join(library, 'lib/libsdjwt.a'),
+  '-o', join(here, 'sdjwt.node')]
 const done = spawnSync(process.env.CC ?? 'cc', words, { stdio: 'inherit' })
 if (done.status !== 0) refuse(done.error ? done.error.message : 'the compiler failed')
 

@@ -6,7 +6,8 @@ const addon = createRequire(import.meta.url)('./sdjwt.node')
 
 // The numbers of the calls in addon.c.
 export const OP = Object.freeze(Object.fromEntries([
-  'issue', 'issueAsk', 'issueSign', 'present', 'presentAsk', 'presentSign', 'show', 'split', 'convert', 'audit', 'wallet',
+  'issue', 'issueAsk', 'issueSign', 'present', 'presentAsk', 'presentSign',
+  'show', 'split', 'convert', 'audit', 'wallet',
   'policyNew', 'policyNonce', 'policyVerify', 'policyJudge',
   'questionText', 'questionSignature', 'questionAlg', 'questionKid', 'questionAt',
 ].map((name, number) => [name, number])))
@@ -30,11 +31,11 @@ export function line(answer) {
 
 /** The bytes of a string. */
 export function encoded(string) {
-  if (/\p{Surrogate}/u.test(string)) throw new RangeError('a string has half of a surrogate pair, which UTF-8 does not have')
+  if (/\p{Surrogate}/u.test(string)) throw new RangeError('a string has half of a surrogate pair: it is not Unicode')
   return bytesOf.encode(string)
 }
 
-/** The status and the answer of a call that gives one; `misused` says which rule is broken where the library says so. */
+/** The status and the answer of a call that gives one; `misused` says which rule a wrong argument breaks. */
 function judged({ status, answer }, misused) {
   switch (status) {
     case STATUS.done: case STATUS.asks: case STATUS.toSign: case STATUS.missing: return { status, answer }

@@ -1,13 +1,13 @@
 #!/bin/sh
-# Tests the package for Node.js over the C library in c/out: it is packed, installed into an empty folder without network,
-# and its README, its types and its tests run there; then its tests run under AddressSanitizer. The last line counts what
-# ran and what was skipped.
+# Tests the package for Node.js over the C library in c/out: it is packed, installed into an empty folder without
+# network, and its README, its types and its tests run there; then its tests run under AddressSanitizer. The last line
+# counts what ran and what was skipped.
 #
 #   sh node/check.sh               what is missing is reported and skipped
 #   sh node/check.sh --install     what would be skipped is a failure
 #
-# SDJWT_DIR names another folder with the library, and PACKED a package that is tested instead, such as that of a release.
-# ANSWERS is the number of random results of check, by default 1000000.
+# SDJWT_DIR names another folder with the library, and PACKED a package that is tested instead, such as that of a
+# release. ANSWERS is the number of random results of check, by default 1000000.
 set -eu
 install=no
 case ${1-} in
@@ -15,7 +15,8 @@ case ${1-} in
     --install) install=yes ;;
     *) echo 'usage: sh node/check.sh [--install]' >&2; exit 2 ;;
 esac
-[ "$install" = no ] || command -v tsc >/dev/null || apt-get install -y --no-install-recommends node-typescript >/dev/null
+[ "$install" = no ] || command -v tsc >/dev/null ||
+    apt-get install -y --no-install-recommends node-typescript >/dev/null
 here=$(cd "$(dirname "$0")" && pwd)
 SDJWT_DIR=${SDJWT_DIR:-$here/../c/out}
 PACKED=${PACKED:-}
@@ -72,8 +73,8 @@ installed() {
         (cd "$made/app" && PATH=$made/path npm_config_offline=true npm_config_audit=false npm_config_fund=false \
             sh -eu "$made/commands" >/dev/null) &&
         rm "$made/app/$name" && ls "$made/app/node_modules/sdjwt/sdjwt.node" >/dev/null &&
-        (cd "$made/app/node_modules/sdjwt" && ls LICENSE-MIT LICENSE-APACHE THIRD-PARTY.txt >/dev/null && find . -type f |
-            wc -l | sed 's/$/ files/')
+        cd "$made/app/node_modules/sdjwt" && ls LICENSE-MIT LICENSE-APACHE THIRD-PARTY.txt >/dev/null &&
+        echo "$(find . -type f | wc -l) files"
 }
 holds 'npm install in an empty folder, without network and compiler' installed
 # The examples of README.md in one program, which prints what their comments say.

@@ -56,7 +56,7 @@ export class Policy {
   close(): void
 }
 
-/** A check over keys, by WebCrypto. The holder's key is the one of `cnf`, or the one of `holders` that has its `kid`. */
+/** A check over keys, by WebCrypto. The holder's key is that of `cnf`, or the one of `holders` that has its `kid`. */
 export function checkBy(keys: { issuers: Iterable<PublicKey>; holders?: Iterable<PublicKey> }): Check
 
 /** Unchecked: the JSON inside a token, a line for each part. */

@@ -95,7 +95,9 @@ export async function present(order, token, { now, check, sign, alg } = {}) {
   const time = moment(now)
   const shown = bytesOf('token', token)
   if (sign === undefined && alg !== undefined) throw new TypeError('alg is the algorithm of sign, which is missing')
-  if (check === undefined && sign === undefined) return text(call(OP.present, [bytesOf('order', order), shown], { now: time }))
+  if (check === undefined && sign === undefined) {
+    return text(call(OP.present, [bytesOf('order', order), shown], { now: time }))
+  }
   if (check === undefined) throw new TypeError('check is missing: it checks the signature of the issuer')
   functionOf('check', check)
   const signer = sign === undefined ? undefined : await signerOf(sign, alg)
@@ -185,7 +187,8 @@ export class Policy {
     const handle = free.pop() ?? this.#read()
     try {
       if (nonce !== undefined) {
-        callNow(OP.policyNonce, [encoded(nonce)], { handle }, 'the policy has no binding, or nonce has more than 256 bytes')
+        const misused = 'the policy has no binding, or nonce has more than 256 bytes'
+        callNow(OP.policyNonce, [encoded(nonce)], { handle }, misused)
       }
       return await use(handle)
     } finally {
@@ -206,7 +209,7 @@ export class Policy {
     const time = moment(now)
     const bytes = bytesOf('token', token)
     if (nonce !== undefined && typeof nonce !== 'string') throw new TypeError('nonce is no string')
-    if (check === undefined && holderAlgs !== undefined) throw new TypeError('holderAlgs is for check, which is missing')
+    if (check === undefined && holderAlgs !== undefined) throw new TypeError('holderAlgs needs check, which is missing')
     functionOf('check', check)
     namesOf(holderAlgs)
     return this.#with(nonce, (handle) => check === undefined

@@ -6,8 +6,8 @@ const { subtle } = webcrypto
 
 const EC = { ES256: ['P-256', 'SHA-256', 64], ES384: ['P-384', 'SHA-384', 96], ES512: ['P-521', 'SHA-512', 132] }
 const RSA_BITS = 2048
-// The field of Ed25519, and the y of every point whose order divides 8 (RFC 8032 section 5.1): under such a key anyone can
-// forge signatures.
+// The field of Ed25519, and the y of every point whose order divides 8 (RFC 8032 section 5.1): under such a key anyone
+// can forge signatures.
 const FIELD = 2n ** 255n - 19n
 const OF_ORDER_8 = 0x7a03ac9277fdc74ec6cc392cfa53202a0f67100d760b3cba4fd84d3d706a17c7n
 const OF_SMALL_ORDER = [0n, 1n, FIELD - 1n, OF_ORDER_8, FIELD - OF_ORDER_8]
@@ -17,13 +17,15 @@ function parametersOf(alg) {
   const hash = `SHA-${alg.slice(2)}`
   if (Object.hasOwn(EC, alg)) {
     const [namedCurve, ecHash, length] = EC[alg]
-    return { kty: 'EC', crv: namedCurve, length, key: { name: 'ECDSA', namedCurve }, sign: { name: 'ECDSA', hash: ecHash } }
+    const sign = { name: 'ECDSA', hash: ecHash }
+    return { kty: 'EC', crv: namedCurve, length, key: { name: 'ECDSA', namedCurve }, sign }
   }
   if (alg === 'EdDSA' || alg === 'Ed25519') {
     return { kty: 'OKP', crv: 'Ed25519', length: 64, key: { name: 'Ed25519' }, sign: { name: 'Ed25519' } }
   }
   if (/^PS(256|384|512)$/.test(alg)) {
-    return { kty: 'RSA', key: { name: 'RSA-PSS', hash }, sign: { name: 'RSA-PSS', saltLength: Number(alg.slice(2)) / 8 } }
+    const sign = { name: 'RSA-PSS', saltLength: Number(alg.slice(2)) / 8 }
+    return { kty: 'RSA', key: { name: 'RSA-PSS', hash }, sign }
   }
   if (/^RS(256|384|512)$/.test(alg)) {
     return { kty: 'RSA', key: { name: 'RSASSA-PKCS1-v1_5', hash }, sign: { name: 'RSASSA-PKCS1-v1_5' } }
@@ -44,7 +46,7 @@ function keyFits({ algorithm, type, usages }, parameters) {
     algorithm.namedCurve === namedCurve && algorithm.hash?.name === hash
 }
 
-/** Whether a key may check signatures of an algorithm: by its type, and by what a JWK says of itself (RFC 7517 section 4). */
+/** Whether a key may check signatures of an algorithm: by its type, and by the members of a JWK (RFC 7517). */
 function fits(jwk, alg, parameters) {
   if (jwk?.key !== undefined) return types.isCryptoKey(jwk.key) && keyFits(jwk.key, parameters)
   return jwk !== null && typeof jwk === 'object' && jwk.kty === parameters.kty &&
@@ -76,7 +78,7 @@ async function ofLargeOrder(key) {
 function longEnough(key, parameters) {
   const { modulusLength, length, hash } = key.algorithm
   if (parameters.kty === 'RSA' && modulusLength < RSA_BITS) throw new RangeError('the key is too short')
-  if (parameters.kty === 'oct' && length < Number(hash.name.slice(4))) throw new RangeError('the key is shorter than the hash')
+  if (parameters.kty === 'oct' && length < Number(hash.name.slice(4))) throw new RangeError('the key is too short')
   return key
 }
 
@@ -105,8 +107,8 @@ function entries(name, keys) {
 }
 
 /**
- * A `check` over public keys, and symmetric ones for an HMAC: `issuers` are the keys of the issuers. The holder's key is
- * the one of `cnf`: `jwk` itself, or the one of `holders` that has its `kid`.
+ * A `check` over public keys, and symmetric ones for an HMAC: `issuers` are the keys of the issuers. The holder's key
+ * is the one of `cnf`: `jwk` itself, or the one of `holders` that has its `kid`.
  */
 export function checkBy({ issuers, holders = [] }) {
   const [ofIssuers, ofHolders] = [entries('issuers', issuers), entries('holders', holders)]
@@ -171,7 +173,9 @@ async function privateKey(jwk, alg) {
   if (jwk === null || typeof jwk !== 'object') throw new TypeError('sign is no CryptoKey, no JWK and no function')
   const named = alg ?? jwk.alg ?? USUAL[`${jwk.kty} ${jwk.crv}`]
   const parameters = named === undefined ? undefined : parametersOf(named)
-  if (parameters === undefined || parameters.kty === 'oct') throw new TypeError('the algorithm of the key is not known: give alg')
+  if (parameters === undefined || parameters.kty === 'oct') {
+    throw new TypeError('the algorithm of the key is not known: give alg')
+  }
   const { use, key_ops: operations, ext, kid, alg: own, ...bare } = jwk
   return subtle.importKey('jwk', bare, parameters.key, false, ['sign'])
 }

@@ -1,10 +1,10 @@
 #!/bin/sh
-# Tests the crate for Rust over the C library in c/out: its examples and tests, the first minute of README.md, clippy, and
-# the tests under valgrind. The last line counts what ran and what was skipped.
+# Tests the crate for Rust over the C library in c/out: its examples and tests, the first minute of README.md, clippy,
+# and the tests under valgrind. The last line counts what ran and what was skipped.
 #
 #   sh rust/check.sh               what is missing is reported and skipped
-#   sh rust/check.sh --install     what is missing is installed from Debian's packages first, and what would be skipped is
-#                                  a failure
+#   sh rust/check.sh --install     what is missing is installed from Debian's packages first, and what would be skipped
+#                                  is a failure
 #
 # The crates that only tests use are those of Debian, in /usr/share/cargo/registry. SDJWT_DIR names another folder with
 # the library, CRATE another folder with the crate, and CARGO_TARGET_DIR a folder to build in, which is kept.
@@ -48,7 +48,8 @@ ended() {
 }
 
 command -v cargo >/dev/null || { skip 'all of it, since there is no cargo' && ended; }
-[ -f "$SDJWT_DIR/lib/libsdjwt.a" ] || { echo "check.sh: $SDJWT_DIR has no lib/libsdjwt.a: run sh c/build.sh" >&2 && exit 1; }
+[ -f "$SDJWT_DIR/lib/libsdjwt.a" ] ||
+    { echo "check.sh: $SDJWT_DIR has no lib/libsdjwt.a: run sh c/build.sh" >&2 && exit 1; }
 
 # A copy, in which Cargo finds Debian's crates and writes nothing into the repository.
 cp -R "$CRATE" "$made/rust"

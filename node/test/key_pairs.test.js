@@ -51,7 +51,8 @@ test('the issued token of RFC 9901, and each letter changed', async () => {
 test('three ends with every algorithm', async () => {
   for (const alg of Object.keys(PARAMETERS)) {
     const [office, ada, other] = await Promise.all([pair(alg), pair('ES256'), pair(alg)])
-    const order = { payload: { iss: 'tickets', cnf: { jwk: ada.jwk }, name: 'Ada', seat: 'B12' }, hide: ['/name', '/seat'] }
+    const payload = { iss: 'tickets', cnf: { jwk: ada.jwk }, name: 'Ada', seat: 'B12' }
+    const order = { payload, hide: ['/name', '/seat'] }
     const ticket = await sdjwt.issue(order, { sign: office.privateKey, alg })
     const wish = { algs: [alg], want: ['/seat'], never: ['/name'], binding: { aud: 'door', nonce: '4711' } }
     const check = sdjwt.checkBy({ issuers: [office.jwk] })
@@ -88,7 +89,9 @@ test('a key fits its algorithm', async () => {
   const policy = new sdjwt.Policy({ keys: { keys: [] }, algs: ['ES256', 'HS256', 'ES384'] })
   const verdict = (...issuers) => policy.verify(token, { check: sdjwt.checkBy({ issuers }) })
   assert.deepEqual(await verdict({ ...jwk, kid: 'a' }), {})
-  for (const more of [{ kid: 'b' }, { use: 'enc' }, { alg: 'ES384' }, { key_ops: ['sign'] }, { kty: 'RSA' }, { crv: 'P-384' }]) {
+  const ofJwk = [{ kid: 'b' }, { use: 'enc' }, { alg: 'ES384' }, { key_ops: ['sign'] }]
+  const unfit = [...ofJwk, { kty: 'RSA' }, { crv: 'P-384' }]
+  for (const more of unfit) {
     await assert.rejects(verdict({ ...jwk, kid: 'a', ...more }), { name: 'issuerKeyUnknown' }, JSON.stringify(more))
   }
   for (const wrong of [{ x: 'AA' }, { y: jwk.x }, { x: 1 }]) {
@@ -97,7 +100,8 @@ test('a key fits its algorithm', async () => {
   await assert.rejects(verdict(null, 3, 'key', {}), { name: 'issuerKeyUnknown' })
   // an HMAC under the bytes of a public key
   const forged = await sdjwt.issue({ payload: {}, key: jwk.x, kid: 'a' })
-  await assert.rejects(policy.verify(forged, { check: sdjwt.checkBy({ issuers: [{ ...jwk, kid: 'a' }] }) }), { name: 'issuerKeyUnknown' })
+  const check = sdjwt.checkBy({ issuers: [{ ...jwk, kid: 'a' }] })
+  await assert.rejects(policy.verify(forged, { check }), { name: 'issuerKeyUnknown' })
 })
 
 test('a CryptoKey checks, with a kid and without', async () => {
@@ -126,7 +130,9 @@ test('a symmetric CryptoKey or JWK checks an HMAC, and no public key does', asyn
   const policy = new sdjwt.Policy({ keys: { keys: [] }, algs: ['HS256'] })
   const verdict = (...issuers) => policy.verify(token, { check: sdjwt.checkBy({ issuers }) })
   for (const key of [secret, { kty: 'oct', k }]) assert.deepEqual(await verdict(key), {})
-  for (const key of [short, { kty: 'oct', k: 'AQEB' }, { kty: 'oct' }]) await assert.rejects(verdict(key), { name: 'badSignature' })
+  for (const key of [short, { kty: 'oct', k: 'AQEB' }, { kty: 'oct' }]) {
+    await assert.rejects(verdict(key), { name: 'badSignature' })
+  }
   await assert.rejects(verdict((await pair('ES256')).jwk), { name: 'issuerKeyUnknown' })
 })
 

@@ -1,5 +1,5 @@
-// A million random results of `check`: each verdict is the one that follows from them, and each signature is asked about
-// once, the issuer's first. Three of four calls run in worker threads. ANSWERS is another number of them.
+// A million random results of `check`: each verdict is the one that follows from them, and each signature is asked
+// about once, the issuer's first. Three of four calls run in worker threads. ANSWERS is another number of them.
 import assert from 'node:assert/strict'
 import { test } from 'node:test'
 import { Worker, isMainThread, parentPort, workerData } from 'node:worker_threads'
@@ -15,7 +15,7 @@ const FAULT = new Error('no connection')
 async function token(nonce) {
   const order = { payload: { iss: 'tickets', cnf: { jwk: { kty: 'EC' } }, name: 'Ada', seat: 'B12' },
     hide: ['/name', '/seat'], kid: 'office' }
-  const ticket = await sdjwt.issue(order, { sign: () => new Uint8Array(64).fill(1), alg: 'ES256', seed: new Uint8Array(32) })
+  const ticket = await sdjwt.issue(order, { sign: () => new Uint8Array(64).fill(1), alg: 'ES256' })
   const wish = { algs: ['ES256'], want: ['/seat'], ...(nonce && { binding: { aud: 'door', nonce, alg: 'ES256' } }) }
   return sdjwt.present(wish, ticket, { now, check: () => true, sign: () => new Uint8Array(64).fill(2), alg: 'ES256' })
 }

@@ -25,7 +25,7 @@ export async function taken(): Promise<void> {
 }
 
 export function caught(error: unknown): string {
-  if (error instanceof sdjwt.Refused) return `${error.name} ${error.number.toFixed()} ${error.place ?? ''} ${error.message}`
+  if (error instanceof sdjwt.Refused) return `${error.name} ${error.number.toFixed()} ${error.place ?? error.message}`
   if (error instanceof sdjwt.Unreadable) return `${error.input.toFixed()} ${error.reason} ${error.remedy}`
   return sdjwt.isProved ? sdjwt.version : 'not proved'
 }

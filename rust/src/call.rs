@@ -35,8 +35,8 @@ impl Answer {
     }
 }
 
-/// Calls with a buffer that is mostly long enough, and once more if it is not. `misused` says which rule is broken if the
-/// status is `SDJWT_USAGE`.
+/// Calls with a buffer that is mostly long enough, and once more if it is not. `misused` says which rule is broken if
+/// the status is `SDJWT_USAGE`.
 pub(crate) fn answer(
     room: usize,
     misused: &'static str,

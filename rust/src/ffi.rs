@@ -190,7 +190,8 @@ extern "C" {
     ) -> u8;
     fn sdjwt_policy_nonce(handle: *mut RawPolicy, nonce: *const u8, nonce_len: usize) -> u8;
     fn sdjwt_policy_verify(
-        handle: *mut RawPolicy, token: *const u8, token_len: usize, now: u64, out: *mut u8, room: usize, len: *mut usize,
+        handle: *mut RawPolicy, token: *const u8, token_len: usize, now: u64,
+        out: *mut u8, room: usize, len: *mut usize,
     ) -> u8;
     fn sdjwt_policy_judge(
         handle: *mut RawPolicy, algs: *const u8, algs_len: usize, token: *const u8, token_len: usize, now: u64,
@@ -307,8 +308,8 @@ pub(crate) fn has_stack() -> bool {
 fn stack_end() -> usize {
     let mut attributes = MaybeUninit::<Attributes>::uninit();
     let (mut low, mut size) = (ptr::null_mut(), 0);
-    // SAFETY: the attributes have more room than glibc writes; they are read and destroyed only if they were written, and
-    // `low` and `size` are mutable borrows.
+    // SAFETY: the attributes have more room than glibc writes; they are read and destroyed only if they were written,
+    // and `low` and `size` are mutable borrows.
     let is_said = unsafe {
         pthread_getattr_np(pthread_self(), attributes.as_mut_ptr()) == 0 && {
             let is_said = pthread_attr_getstack(attributes.as_ptr(), &mut low, &mut size) == 0;

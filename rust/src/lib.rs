@@ -32,7 +32,8 @@
 //! # Key pairs
 //!
 //! With ES256, `EdDSA` and other key pairs you check and make the signatures, by the library that has your keys:
-//! [`Policy::verify_with`], [`issue_with`] and [`present_with`] call a function of yours with the text and the signature.
+//! [`Policy::verify_with`], [`issue_with`] and [`present_with`] call a function of yours with the text and the
+//! signature.
 //!
 //! # Errors
 //!

@@ -36,8 +36,8 @@ pub enum Whose {
 
 /// A signature that the caller is to check.
 ///
-/// All of it but the text's place in the token comes from whoever made the token. Select the key by the algorithm and by
-/// the type of the key: never check an HMAC under the bytes of a public key (RFC 8725 section 3.1).
+/// All of it but the text's place in the token comes from whoever made the token. Select the key by the algorithm and
+/// by the type of the key: never check an HMAC under the bytes of a public key (RFC 8725 section 3.1).
 #[derive(Clone, Debug)]
 pub struct Question {
     line: Vec<u8>,
@@ -92,8 +92,8 @@ impl Question {
         self.kid.as_deref()
     }
 
-    /// The string at a JSON Pointer (RFC 6901) into the question: `/payload/cnf/jwk/x` is the member `x` of the holder's
-    /// key. Nothing, if there is no string.
+    /// The string at a JSON Pointer (RFC 6901) into the question: `/payload/cnf/jwk/x` is the member `x` of the
+    /// holder's key. Nothing, if there is no string.
     ///
     /// # Errors
     ///

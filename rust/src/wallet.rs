@@ -18,8 +18,8 @@ pub struct Picked {
     pub token: String,
 }
 
-/// Of 1 to [`TOKENS_MAX`] tokens the one that answers a query (`docs/FILES.md`) with the fewest disclosures. The keys are
-/// symmetric.
+/// Of 1 to [`TOKENS_MAX`] tokens the one that answers a query (`docs/FILES.md`) with the fewest disclosures. The keys
+/// are symmetric.
 ///
 /// # Errors
 ///

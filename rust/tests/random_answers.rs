@@ -127,8 +127,10 @@ fn a_million() {
 fn each_once() {
     let verdicts = [Verdict::UnknownKey, Verdict::Bad, Verdict::Good];
     for case in &cases() {
-        for (issuer, holder) in verdicts.iter().flat_map(|issuer| verdicts.iter().map(move |holder| (*issuer, *holder))) {
-            is_as_due(case, issuer, holder);
+        for issuer in verdicts {
+            for holder in verdicts {
+                is_as_due(case, issuer, holder);
+            }
         }
     }
 }

@@ -18,7 +18,8 @@ fn ticket(seat: &str) -> String {
 
 fn shown(seat: &str, nonce: &str) -> String {
     let wish = format!(
-        r#"{{"keys": {}, "want": ["/seat"], "binding": {{"key": "{KEY}", "kid": "a", "aud": "door", "nonce": "{nonce}"}}}}"#,
+        r#"{{"keys": {}, "want": ["/seat"],
+            "binding": {{"key": "{KEY}", "kid": "a", "aud": "door", "nonce": "{nonce}"}}}}"#,
         key_set()
     );
     sdjwt::present(wish, ticket(seat), 1000).unwrap()
@@ -95,7 +96,8 @@ fn errors_say_what_is_wrong() {
         Error::Unreadable(unreadable) => assert_eq!((unreadable.input(), unreadable.reason()), (1, "notJson")),
         other => panic!("{other}"),
     }
-    let error = sdjwt::present(format!(r#"{{"keys": {}, "want": ["/a b"]}}"#, key_set()), ticket("B12"), 0).unwrap_err();
+    let wish = format!(r#"{{"keys": {}, "want": ["/a b"]}}"#, key_set());
+    let error = sdjwt::present(wish, ticket("B12"), 0).unwrap_err();
     let refused = error.refused().unwrap();
     assert_eq!((refused.number(), refused.name(), refused.place()), (72, "wantedNotThere", Some("0")));
     assert!(std::error::Error::source(&error).is_some());

@@ -4,8 +4,10 @@ use sdjwt::{Error, Form, Policy, Verdict};
 use std::panic::{self, AssertUnwindSafe};
 use std::thread;
 
-const ORDER: &str = r#"{"payload": {"iss": "tickets", "cnf": {"jwk": {"kty": "EC"}}, "seat": "B12"}, "hide": ["/seat"]}"#;
-const WISH: &str = r#"{"algs": ["ES256"], "want": ["/seat"], "binding": {"aud": "door", "nonce": "1", "alg": "ES256"}}"#;
+const ORDER: &str = r#"{"payload": {"iss": "tickets", "cnf": {"jwk": {"kty": "EC"}}, "seat": "B12"},
+    "hide": ["/seat"]}"#;
+const WISH: &str = r#"{"algs": ["ES256"], "want": ["/seat"],
+    "binding": {"aud": "door", "nonce": "1", "alg": "ES256"}}"#;
 const NOW: u64 = 1000;
 
 fn ticket() -> String {
