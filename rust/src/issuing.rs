@@ -11,7 +11,7 @@ const SIGNS: &str = "the algorithm is empty or `none`, or the signature is empty
 
 /// The token of an order (`docs/FILES.md`), which has a symmetric key.
 ///
-/// Whoever knows the seed can guess what is hidden: take its bytes from the system's random numbers, and use none
+/// Anyone who knows the seed can guess the hidden claims: take its bytes from the system's random numbers, and use none
 /// twice.
 ///
 /// # Errors
@@ -30,7 +30,7 @@ pub fn issue(order: impl AsRef<[u8]>, seed: &[u8; SEED_LENGTH]) -> Result<String
 ///
 /// # Errors
 ///
-/// As of [`issue`]; and the algorithm or the signature is [wrong](Error::Misused).
+/// The same as of [`issue`], and [`Error::Misused`] if the algorithm or the signature is wrong.
 pub fn issue_with(
     order: impl AsRef<[u8]>,
     alg: &str,

@@ -1,17 +1,18 @@
-//! What a caller that checks signatures is asked.
+//! The questions to a caller that checks signatures.
 
 use crate::call::{answer, room_for, Answer, MISSING};
 use crate::error::Error;
 use crate::ffi;
 
-/// What a caller says of a signature.
+/// Your verdict on a signature.
 #[derive(Clone, Copy, Debug, PartialEq, Eq)]
 pub enum Verdict {
-    /// There is no key for it.
+    /// You have no key for it.
     UnknownKey,
-    /// It is not a signature of the text under the key.
+    /// It is not a good signature of the text under the key.
     Bad,
-    /// It is one: checked over just the text, with the algorithm of the question, under a key that is trusted for it.
+    /// It is good: you checked it over exactly the text, with the algorithm of the question, under a key that is
+    /// trusted for it.
     Good,
 }
 

@@ -154,3 +154,17 @@ fn moments_at_the_limits() {
         assert!(door.verify_with(&shown, now, &[], |_| Verdict::Good).unwrap_err().refused().is_some(), "{now}");
     }
 }
+
+/// Without names of its own the holder's algorithm is one of the policy's; with names it is one of these.
+#[test]
+fn algorithms_of_holders() {
+    let (shown, door) = (shown(), door());
+    let verdict = |algs: &[&str]| door.verify_with(&shown, NOW, algs, |_| Verdict::Good);
+    for algs in [&[][..], &["ES256"], &["EdDSA", "ES256"]] {
+        assert!(verdict(algs).is_ok(), "{algs:?}");
+    }
+    for algs in [&["EdDSA"][..], &[""], &["none"]] {
+        let error = verdict(algs).unwrap_err();
+        assert_eq!(error.refused().map(sdjwt::Refused::name), Some("bindingAlg"), "{algs:?}");
+    }
+}
