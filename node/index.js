@@ -200,7 +200,7 @@ export class Policy {
   /** Frees the memory now. Calls that have begun end as usual, and later ones are rejected. */
   close() {
     this.#isClosed = true
-    for (const free of Object.values(this.#free)) free.splice(0).forEach(freeHandle)
+    for (const handle of Object.values(this.#free).flatMap((free) => free.splice(0))) freeHandle(handle)
     this.#bytes = new Uint8Array(0)
   }
 

@@ -18,7 +18,7 @@ const door = () => new sdjwt.Policy({ keys: NO_KEYS, algs: ['ES256'], binding })
 const shown = async () => sdjwt.present(wish, await sdjwt.issue(order, byOnes), { now, check: () => true, ...byOnes })
 
 async function largeToken() {
-  const members = Object.fromEntries(Array.from({ length: 3000 }, (_, i) => [`name ${i}`, i]))
+  const members = Object.fromEntries(Array.from({ length: 500 }, (_, i) => [`name ${i}`, i]))
   return sdjwt.issue({ payload: members, hide: Object.keys(members).map((name) => `/${name}`), key, kid: 'a' })
 }
 
@@ -87,7 +87,7 @@ if (!isMainThread) {
       await new Promise((resolve) => { setTimeout(resolve, 5 * i) })
       assert.equal(await worker.terminate(), 1)
     }))
-    assert.equal(Object.keys(await sdjwt.verify({ keys }, token)).length, 3000)
+    assert.equal(Object.keys(await sdjwt.verify({ keys }, token)).length, 500)
   })
 
   test('a process that ends in a call', async () => {

@@ -89,7 +89,7 @@ fn a_small_stack_is_an_error() {
         let call = move || sdjwt::issue_with(deep, "ES256", &[1; 32], |_| vec![1]);
         thread::Builder::new().stack_size(size).spawn(call).unwrap().join().unwrap()
     };
-    for size in [16 * 1024, 64 * 1024, 256 * 1024, 500 * 1024] {
+    for size in [64 * 1024, 256 * 1024, 500 * 1024] {
         assert_eq!(on(size), Err(Error::OutOfStack), "{size}");
     }
     for size in [1024 * 1024, 2 * 1024 * 1024, 64 * 1024 * 1024] {
