@@ -8,7 +8,7 @@ import { checkBy, signerOf } from './keys.js'
 export { Refused, SdJwtError, Unreadable, checkBy, isProved, version }
 
 const SEED_LENGTH = 32
-const SAID = { null: 1, false: 2, true: 3 }
+const SAID = new Map([[null, 1], [false, 2], [true, 3]])
 const FORMS = { compact: 0, flat: 1, general: 2 }
 const HANDLES_KEPT = 8
 const U64_MAX = 2n ** 64n - 1n
@@ -83,11 +83,9 @@ function questionOf(answer) {
 
 /** What a caller says of a signature, as a number. */
 async function saidOf(check, question) {
-  const said = await check(question)
-  if (!Object.hasOwn(SAID, String(said)) || typeof said === 'string') {
-    throw new TypeError('check returned neither true, false nor null')
-  }
-  return SAID[String(said)]
+  const said = SAID.get(await check(question))
+  if (said === undefined) throw new TypeError('check returned neither true, false nor null')
+  return said
 }
 
 /** What is presented of a token. With `check` or `sign` the order has no keys, but `algs`. */

@@ -156,7 +156,7 @@ test('what check says', async () => {
   await assert.rejects(policy.verify(token, { check: () => null }), { number: 9 })
   await assert.rejects(policy.verify(token, { check: () => false }), { number: 10 })
   assert.deepEqual(await policy.verify(token, { check: async () => true }), {})
-  for (const wrong of [undefined, 1, 'true', {}, []]) {
+  for (const wrong of [undefined, 1, 'true', {}, [], [true], new Boolean(true), { toString: () => 'true' }]) {
     await assert.rejects(policy.verify(token, { check: () => wrong }), TypeError, String(wrong))
   }
   const fault = new Error('no connection')
