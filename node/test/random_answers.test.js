@@ -35,7 +35,7 @@ async function cases() {
 
 // What check returns, and what it means: a number is a refusal of the issuer's signature and one of the holder's.
 const SAID = [
-  { give: () => null, refused: [9, 29] },
+  { give: () => null, refused: [9, 27] },
   { give: () => false, refused: [10, 30] },
   { give: async () => false, refused: [10, 30] },
   { give: () => true },

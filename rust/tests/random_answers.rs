@@ -79,7 +79,7 @@ fn due(case: &Case, issuer: Verdict, holder: Verdict) -> Option<u8> {
         Verdict::Bad => Some(10),
         Verdict::Good if case.after_issuer.is_some() || !case.has_binding => case.after_issuer,
         Verdict::Good => match holder {
-            Verdict::UnknownKey => Some(29),
+            Verdict::UnknownKey => Some(27),
             Verdict::Bad => Some(30),
             Verdict::Good => case.after_both,
         },
