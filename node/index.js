@@ -143,6 +143,8 @@ export async function audit(order, token) {
 
 /** Of 1 to 64 tokens the one that answers a query with the fewest disclosures. */
 export async function wallet(query, tokens) {
+  const isList = tokens !== null && typeof tokens === 'object' && typeof tokens[Symbol.iterator] === 'function'
+  if (!isList) throw new TypeError('tokens is no list of tokens')
   const files = Array.from(tokens, (token, at) => bytesOf(`token ${at}`, token))
   if (files.length < 1 || files.length > 64) throw new RangeError(`there are ${files.length} tokens, and not 1 to 64`)
   const said = await text(call(OP.wallet, [bytesOf('query', query), ...files]))

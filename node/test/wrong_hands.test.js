@@ -36,7 +36,7 @@ async function calls(token) {
 
 if (!isMainThread) {
   if (workerData.stack) {
-    const deep = JSON.parse(`${'['.repeat(100)}1${']'.repeat(100)}`)
+    const deep = JSON.parse(`${'['.repeat(90)}1${']'.repeat(90)}`)
     const said = await sdjwt.issue({ payload: { deep }, key }).then(() => 'issued', (error) => error.message)
     let read = 'read'
     try { new sdjwt.Policy({ keys }) } catch (error) { read = `${error.name}: ${error.message}` }
@@ -210,7 +210,9 @@ if (!isMainThread) {
     await assert.rejects(policy.verify(token, { now, nonce: '\ud800' }), RangeError)
     await assert.rejects(sdjwt.show('\udfff'), RangeError)
     await assert.rejects(sdjwt.present(wish, token, { now, alg: 'ES256', check: () => true }), TypeError)
-    await assert.rejects(sdjwt.wallet({ keys }, 7), TypeError)
+    for (const tokens of [undefined, null, 7, 'x', {}]) {
+      await assert.rejects(sdjwt.wallet({ keys }, tokens), { message: 'tokens is no list of tokens' })
+    }
     await assert.rejects(sdjwt.wallet({ keys }, [7]), TypeError)
     for (const issuers of [undefined, null, 7, {}]) assert.throws(() => sdjwt.checkBy({ issuers }), TypeError)
     assert.throws(() => sdjwt.checkBy(), TypeError)

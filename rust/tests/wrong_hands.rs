@@ -26,7 +26,12 @@ fn door() -> Policy {
     .unwrap()
 }
 
-/// Whether a call ends by a panic with this text, and nothing of it is printed.
+/// Panics without a message on standard error.
+fn panicking<T>(text: &'static str) -> T {
+    panic::resume_unwind(Box::new(text))
+}
+
+/// Whether a call ends by a panic with this text.
 fn panics_with<T>(text: &str, call: impl FnOnce() -> T) -> bool {
     let fault = panic::catch_unwind(AssertUnwindSafe(call)).err();
     fault.and_then(|fault| fault.downcast_ref::<&str>().map(|said| *said == text)).unwrap_or(false)
@@ -35,21 +40,31 @@ fn panics_with<T>(text: &str, call: impl FnOnce() -> T) -> bool {
 #[test]
 fn closures_that_panic() {
     let (ticket, shown, door) = (ticket(), shown(), door());
-    panic::set_hook(Box::new(|_| ()));
-    let mut good = 0;
-    for _ in 0..100 {
-        good += usize::from(panics_with("check", || door.verify_with(&shown, NOW, &[], |_| panic!("check"))));
-        good += usize::from(panics_with("sign", || sdjwt::issue_with(ORDER, "ES256", &[1; 32], |_| panic!("sign"))));
-        good += usize::from(panics_with("check", || {
-            sdjwt::present_with(WISH, &ticket, NOW, |_| panic!("check"), |_| vec![2; 64])
+    for _ in 0..20 {
+        assert!(panics_with("check", || door.verify_with(&shown, NOW, &[], |_| panicking("check"))));
+        assert!(panics_with("nonce", || door.for_nonce("1").verify_with(&shown, NOW, &[], |_| panicking("nonce"))));
+        assert!(panics_with("issue", || sdjwt::issue_with(ORDER, "ES256", &[1; 32], |_| panicking("issue"))));
+        assert!(panics_with("issuer", || {
+            sdjwt::present_with(WISH, &ticket, NOW, |_| panicking("issuer"), |_| vec![2; 64])
         }));
-        good += usize::from(panics_with("sign", || {
-            sdjwt::present_with(WISH, &ticket, NOW, |_| Verdict::Good, |_| panic!("sign"))
+        assert!(panics_with("sign", || {
+            sdjwt::present_with(WISH, &ticket, NOW, |_| Verdict::Good, |_| panicking("sign"))
         }));
     }
-    drop(panic::take_hook());
-    assert_eq!(good, 400);
     // the policy is as it was
+    assert!(door.verify_with(&shown, NOW, &[], |_| Verdict::Good).is_ok());
+}
+
+/// A panic of one thread reaches only this one.
+#[test]
+fn a_panic_in_a_thread() {
+    let (shown, door) = (shown(), door());
+    thread::scope(|scope| {
+        let broken = scope.spawn(|| door.verify_with(&shown, NOW, &[], |_| panicking("check")));
+        let sound = scope.spawn(|| door.verify_with(&shown, NOW, &[], |_| Verdict::Good));
+        assert!(broken.join().is_err());
+        assert!(sound.join().unwrap().is_ok());
+    });
     assert!(door.verify_with(&shown, NOW, &[], |_| Verdict::Good).is_ok());
 }
 
@@ -83,7 +98,7 @@ fn a_policy_that_moves_to_a_thread_and_ends_there() {
 
 #[test]
 fn a_small_stack_is_an_error() {
-    let deep = format!(r#"{{"payload": {{"a": {}1{}}}}}"#, "[".repeat(100), "]".repeat(100));
+    let deep = format!(r#"{{"payload": {{"a": {}1{}}}}}"#, "[".repeat(90), "]".repeat(90));
     let on = |size| {
         let deep = deep.clone();
         let call = move || sdjwt::issue_with(deep, "ES256", &[1; 32], |_| vec![1]);
