@@ -19,7 +19,8 @@ from pathlib import Path
 
 TOP = Path(__file__).resolve().parent.parent
 PAGES = [TOP / name for name in ("README.md", "CHANGELOG.md", "CONTRIBUTING.md", "python/README.md")]
-PAGES += [TOP / "vectors/README.md"] + sorted((TOP / "docs").glob("*.md")) + sorted((TOP / "docs").glob("*.1"))
+PAGES += [TOP / "vectors/README.md", TOP / "rust/README.md", TOP / "node/README.md"]
+PAGES += sorted((TOP / "docs").glob("*.md")) + sorted((TOP / "docs").glob("*.1"))
 OF_CODE = [TOP / f"docs/{name}.md" for name in ("ARCHITECTURE", "PROVED", "DECISIONS", "LIBRARY", "SECURITY", "C")]
 OF_CODE += [TOP / "CONTRIBUTING.md"]
 # What these name of Rust and of the kit, and a claim.
@@ -49,6 +50,20 @@ FOLDERS = ("c", "completions", "crates/sd_vectors/data", "docs", "examples", "py
 SUFFIXES = (".bash", ".c", ".h", ".json", ".md", ".py", ".rows", ".sh", ".txt", ".1", "")
 # The ranges of the sections of REFUSALS.md that manual pages say.
 RANGES = [("docs/sdjwt.1", r"\((\d+) to (\d+)\)", 3), ("docs/sdjwt_tools.1", r"(8\d) to (\d+)", 1)]
+# Where the version of python/pyproject.toml is said once more. The C library is built with that one.
+VERSIONS = [
+    ("rust/Cargo.toml", r'^version = "(.*)"$'),
+    ("rust/README.md", r"sdjwt-(\d+\.\d+\.\d+)"),
+    ("node/package.json", r'^  "version": "(.*)",$'),
+    ("node/README.md", r"sdjwt-(\d+\.\d+\.\d+)"),
+    ("README.md", r"^\*\*Status\*\*: version (\S+)\. "),
+]
+# The numbers of c/sdjwt.h that the packages for Rust and JavaScript write out: the file, how, and the prefix there.
+NUMBERS = [
+    ("rust/src/call.rs", r"^(?:pub\(crate\) )?const (\w+): u8 = (\d+);$"),
+    ("rust/src/wallet.rs", r"^pub const (\w+)_MAX: usize = (\d+);$"),
+    ("node/calls.js", r"\b([A-Z_]+) = (\d+)\b"),
+]
 RUNS = [("audit_core", "AuditRun"), ("wallet_core", "WalletRun"), ("feed_core", "FeedRun")]
 
 
@@ -222,8 +237,23 @@ def check_handed_on():
         yield from (f"{file} of sdjwt_lib does not hand on {name}" for name in sorted(named - found))
 
 
+def check_versions():
+    """Whether all packages have one version, and the numbers of sdjwt.h."""
+    version = re.search(r'^version = "(.*)"$', text_of("python/pyproject.toml"), re.M)[1]
+    for file, pattern in VERSIONS:
+        for said in re.findall(pattern, text_of(file), re.M) or ["none"]:
+            if said != version:
+                yield f"{file} says the version {said}, and python/pyproject.toml {version}"
+    due = dict(re.findall(r"^#define SDJWT_(\w+) (\d+)$", text_of("c/sdjwt.h"), re.M))
+    for file, pattern in NUMBERS:
+        for name, said in re.findall(pattern, text_of(file), re.M) or [("none", "")]:
+            if due.get(name) != said and name != "NO_STACK":
+                yield f"{file} says {said} for {name}, which c/sdjwt.h does not"
+
+
 def main():
-    checks = (check_numbers, check_limits, check_words, check_members, check_names, check_code, check_handed_on)
+    checks = (check_versions, check_numbers, check_limits, check_words, check_members, check_names, check_code,
+              check_handed_on)
     wrong = [line for check in checks for line in check()]
     counts = f"{len(rows())} numbers, {len(limits())} limits"
     print("\n".join(wrong) or f"documents, completions and manual pages agree with specs/: {counts}")

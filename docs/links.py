@@ -13,7 +13,7 @@ from pathlib import Path
 TOP = Path(__file__).resolve().parent.parent
 # The files outside docs/ that a release has.
 RELEASED = {"../CHANGELOG.md", "../c/sdjwt.h", "../python/README.md", "../vectors/README.md"}
-RELEASED |= {"../c/examples/public.c", "../c/examples/signed.c"}
+RELEASED |= {"../c/examples/public.c", "../c/examples/signed.c", "../rust/README.md", "../node/README.md"}
 # Code is not prose: blocks between fences, and spans.
 FENCED = re.compile(r"^ *(```+).*?^ *\1 *$", re.M | re.S)
 SPAN = re.compile(r"(`+)(?!`).*?(?<!`)\1(?!`)", re.S)

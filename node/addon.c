@@ -1,12 +1,15 @@
 /*
- * The calls of sdjwt.h for JavaScript, by Node-API. `run` makes one call on a thread of the pool and returns a promise of
- * its status and its answer; `runNow` makes it at once, for the short calls over a question. No rule of SD-JWT stands here.
+ * The calls of sdjwt.h for JavaScript, by Node-API. `run` makes one call on a thread of the pool and returns a promise
+ * of its status and its answer; `runNow` makes it at once, for the short calls over a question. No rule of SD-JWT
+ * stands here.
  *
- * A call is an object: `op` is the number of a call, as below; `inputs` are Uint8Arrays, which are copied before the call
- * begins; `now` is a BigInt; `issuer` and `holder` are numbers; `handle` is what newHandle() returned. Whoever calls sees
- * to it that a handle is in one call at a time (index.js keeps a pool of them).
+ * A call is an object: `op` is the number of a call, as below; `inputs` are Uint8Arrays, which are copied before the
+ * call begins; `now` is a BigInt; `issuer` and `holder` are numbers; `handle` is what newHandle() returned. Whoever
+ * calls sees to it that a handle is in one call at a time (index.js keeps a pool of them).
  */
+#define _GNU_SOURCE
 #include <node_api.h>
+#include <pthread.h>
 #include <sdjwt.h>
 #include <stdbool.h>
 #include <stdlib.h>
@@ -38,6 +41,11 @@ struct call {
     napi_async_work work;
     napi_ref kept; /* the handle, as long as the call runs */
 };
+
+/* The status of a call for which the thread has too little stack. The library was not called. */
+#define NO_STACK 255
+/* The stack that a call may need. The deepest inputs took half of it. */
+#define STACK_NEEDED (512 * 1024)
 
 #define CHECKED(env, call)                                                                                             \
     do {                                                                                                               \
@@ -82,7 +90,8 @@ static sdjwt_status with_room(struct call *c, size_t room) {
         case POLICY_NONCE: *len = 0; return sdjwt_policy_nonce(c->handle, in[0], n[0]);
         case POLICY_VERIFY: return sdjwt_policy_verify(c->handle, in[0], n[0], c->now, out, room, len);
         case POLICY_JUDGE:
-            return sdjwt_policy_judge(c->handle, in[0], n[0], in[1], n[1], c->now, c->issuer, c->holder, out, room, len);
+            return sdjwt_policy_judge(c->handle, in[0], n[0], in[1], n[1], c->now, c->issuer, c->holder, out, room,
+                                      len);
         case QUESTION_TEXT: return sdjwt_question_text(in[0], n[0], out, room, len);
         case QUESTION_SIGNATURE: return sdjwt_question_signature(in[0], n[0], out, room, len);
         case QUESTION_ALG: return sdjwt_question_alg(in[0], n[0], out, room, len);
@@ -92,9 +101,36 @@ static sdjwt_status with_room(struct call *c, size_t room) {
     }
 }
 
-/* Makes the call, with a buffer that is mostly long enough, and once more where it is not. */
+/* The address at which the stack of this thread ends, or 0 if nobody says it. */
+static uintptr_t stack_end(void) {
+    pthread_attr_t attributes;
+    void *low = NULL;
+    size_t size;
+    if (pthread_getattr_np(pthread_self(), &attributes) != 0) return 0;
+    if (pthread_attr_getstack(&attributes, &low, &size) != 0) low = NULL;
+    pthread_attr_destroy(&attributes);
+    return (uintptr_t)low;
+}
+
+/* Whether this thread has enough stack left. With too little of it the process would end. */
+static bool has_stack(void) {
+    static _Thread_local bool is_known;
+    static _Thread_local uintptr_t end;
+    char here;
+    if (!is_known) {
+        end = stack_end();
+        is_known = true;
+    }
+    return (uintptr_t)&here < end || (uintptr_t)&here - end >= STACK_NEEDED;
+}
+
+/* Makes the call, with a buffer that is usually long enough, and once more if it is not. */
 static void made(struct call *c) {
     size_t room = 256;
+    if (!has_stack()) {
+        c->status = NO_STACK;
+        return;
+    }
     for (size_t i = 0; i < c->count; i++) room += c->lengths[i];
     for (int turn = 0; turn < 2; turn++) {
         free(c->out);
@@ -116,7 +152,8 @@ static bool member(napi_env env, napi_value object, const char *name, napi_value
 static bool copied(napi_env env, napi_value list, struct call *c) {
     uint32_t count;
     bool is_list;
-    if (napi_is_array(env, list, &is_list) != napi_ok || !is_list || napi_get_array_length(env, list, &count) != napi_ok)
+    if (napi_is_array(env, list, &is_list) != napi_ok || !is_list ||
+        napi_get_array_length(env, list, &count) != napi_ok)
         return false;
     if (c->op == WALLET ? count < 2 || count > INPUTS_MAX : count != inputs_of[c->op]) return false;
     size_t length = 0;
@@ -198,17 +235,16 @@ static void execute(napi_env env, void *data) {
 static void complete(napi_env env, napi_status status, void *data) {
     struct call *c = data;
     napi_deferred deferred = c->deferred;
+    napi_value text, error;
     napi_delete_async_work(env, c->work);
     if (status != napi_ok) c->status = SDJWT_MEMORY; /* it was cancelled: nothing was written */
     napi_value result = result_of(env, c);
-    if (result != NULL) {
-        napi_resolve_deferred(env, deferred, result);
-        return;
-    }
-    napi_value text, error;
-    napi_create_string_utf8(env, "sdjwt: the answer could not be handed on", NAPI_AUTO_LENGTH, &text);
-    napi_create_error(env, NULL, text, &error);
-    napi_reject_deferred(env, deferred, error);
+    /* In a worker that is being ended these fail, and nobody waits for the promise. */
+    if (result != NULL)
+        (void)napi_resolve_deferred(env, deferred, result);
+    else if (napi_create_string_utf8(env, "sdjwt: the result could not be made", NAPI_AUTO_LENGTH, &text) == napi_ok &&
+             napi_create_error(env, NULL, text, &error) == napi_ok)
+        (void)napi_reject_deferred(env, deferred, error);
 }
 
 static napi_value run(napi_env env, napi_callback_info info) {
@@ -221,6 +257,8 @@ static napi_value run(napi_env env, napi_callback_info info) {
         napi_create_promise(env, &c->deferred, &promise) != napi_ok ||
         napi_create_async_work(env, NULL, name, execute, complete, c, &c->work) != napi_ok ||
         napi_queue_async_work(env, c->work) != napi_ok) {
+        if (c->kept != NULL) napi_delete_reference(env, c->kept);
+        if (c->work != NULL) napi_delete_async_work(env, c->work);
         freed(c);
         CHECKED(env, napi_generic_failure);
     }
@@ -257,6 +295,17 @@ static napi_value new_handle(napi_env env, napi_callback_info info) {
     return handle;
 }
 
+/* Frees what a handle holds, before the collector does. It may be freed twice, and read into again. */
+static napi_value free_handle(napi_env env, napi_callback_info info) {
+    size_t count = 1;
+    napi_value said;
+    void *policy;
+    CHECKED(env, napi_get_cb_info(env, info, &count, &said, NULL, NULL));
+    CHECKED(env, count == 1 ? napi_get_value_external(env, said, &policy) : napi_invalid_arg);
+    sdjwt_policy_free(policy);
+    return NULL;
+}
+
 static napi_value initialized(napi_env env, napi_value exports) {
     napi_value version, is_proved;
     CHECKED(env, napi_create_string_utf8(env, sdjwt_version(), NAPI_AUTO_LENGTH, &version));
@@ -265,6 +314,7 @@ static napi_value initialized(napi_env env, napi_value exports) {
         {"run", NULL, run, NULL, NULL, NULL, napi_default, NULL},
         {"runNow", NULL, run_now, NULL, NULL, NULL, napi_default, NULL},
         {"newHandle", NULL, new_handle, NULL, NULL, NULL, napi_default, NULL},
+        {"freeHandle", NULL, free_handle, NULL, NULL, NULL, napi_default, NULL},
         {"version", NULL, NULL, NULL, NULL, version, napi_default, NULL},
         {"isProved", NULL, NULL, NULL, NULL, is_proved, napi_default, NULL},
     };

@@ -6,7 +6,8 @@ const addon = createRequire(import.meta.url)('./sdjwt.node')
 
 // The numbers of the calls in addon.c.
 export const OP = Object.freeze(Object.fromEntries([
-  'issue', 'issueAsk', 'issueSign', 'present', 'presentAsk', 'presentSign', 'show', 'split', 'convert', 'audit', 'wallet',
+  'issue', 'issueAsk', 'issueSign', 'present', 'presentAsk', 'presentSign',
+  'show', 'split', 'convert', 'audit', 'wallet',
   'policyNew', 'policyNonce', 'policyVerify', 'policyJudge',
   'questionText', 'questionSignature', 'questionAlg', 'questionKid', 'questionAt',
 ].map((name, number) => [name, number])))
@@ -14,8 +15,10 @@ export const OP = Object.freeze(Object.fromEntries([
 // The statuses of sdjwt.h.
 export const STATUS = Object.freeze({ done: 0, asks: 7, toSign: 9, missing: 10 })
 const REFUSED = 1, USAGE = 2, MEMORY = 5, UNREADABLE = 6
+// That of addon.c for a thread with too little stack.
+const NO_STACK = 255
 
-export const { version, isProved, newHandle } = addon
+export const { version, isProved, newHandle, freeHandle } = addon
 
 const text = new TextDecoder('utf-8', { fatal: true, ignoreBOM: true })
 const bytesOf = new TextEncoder()
@@ -26,11 +29,13 @@ export function line(answer) {
   return said.endsWith('\n') ? said.slice(0, -1) : said
 }
 
+/** The bytes of a string. */
 export function encoded(string) {
+  if (/\p{Surrogate}/u.test(string)) throw new RangeError('a string has half of a surrogate pair: it is not Unicode')
   return bytesOf.encode(string)
 }
 
-/** The status and the answer of a call that gives one; `misused` says which rule is broken where the library says so. */
+/** The status and the answer of a call that gives one; `misused` says which rule a wrong argument breaks. */
 function judged({ status, answer }, misused) {
   switch (status) {
     case STATUS.done: case STATUS.asks: case STATUS.toSign: case STATUS.missing: return { status, answer }
@@ -38,6 +43,7 @@ function judged({ status, answer }, misused) {
     case UNREADABLE: throw new Unreadable(line(answer))
     case USAGE: throw new RangeError(misused ?? 'an argument breaks a rule of the library')
     case MEMORY: throw new RangeError('the library found no memory')
+    case NO_STACK: throw new RangeError('a call needs 512 KiB of stack, and this thread has less left')
     default: throw new Error(`the library has an unknown status: ${status}`)
   }
 }

@@ -1,6 +1,6 @@
 // SD-JWT (RFC 9901) for JavaScript, over the proved C library. What decides is the library; see README.md.
 import { randomBytes } from 'node:crypto'
-import { OP, STATUS, call, callNow, encoded, isProved, line, newHandle, version } from './calls.js'
+import { OP, STATUS, call, callNow, encoded, freeHandle, isProved, line, newHandle, version } from './calls.js'
 import { Refused, SdJwtError, Unreadable } from './errors.js'
 import { parsed, written } from './json.js'
 import { checkBy, signerOf } from './keys.js'
@@ -8,7 +8,7 @@ import { checkBy, signerOf } from './keys.js'
 export { Refused, SdJwtError, Unreadable, checkBy, isProved, version }
 
 const SEED_LENGTH = 32
-const SAID = { null: 1, false: 2, true: 3 }
+const SAID = new Map([[null, 1], [false, 2], [true, 3]])
 const FORMS = { compact: 0, flat: 1, general: 2 }
 const HANDLES_KEPT = 8
 const U64_MAX = 2n ** 64n - 1n
@@ -59,7 +59,7 @@ export async function issue(order, { seed, sign, alg } = {}) {
 
 async function signed(signer, asked) {
   const signature = await signer.sign(new Uint8Array(asked))
-  if (!(signature instanceof Uint8Array)) throw new TypeError('sign gave no Uint8Array')
+  if (!(signature instanceof Uint8Array)) throw new TypeError('sign returned no Uint8Array')
   return signature
 }
 
@@ -82,26 +82,28 @@ function questionOf(answer) {
 }
 
 /** What a caller says of a signature, as a number. */
-async function saidOf(check, answer) {
-  const said = await check(questionOf(answer))
-  if (!Object.hasOwn(SAID, String(said)) || typeof said === 'string') {
-    throw new TypeError('check gave neither true, false nor null')
-  }
-  return SAID[String(said)]
+async function saidOf(check, question) {
+  const said = SAID.get(await check(question))
+  if (said === undefined) throw new TypeError('check returned neither true, false nor null')
+  return said
 }
 
 /** What is presented of a token. With `check` or `sign` the order has no keys, but `algs`. */
 export async function present(order, token, { now, check, sign, alg } = {}) {
   const time = moment(now)
   const shown = bytesOf('token', token)
-  if (check === undefined && sign === undefined) return text(call(OP.present, [bytesOf('order', order), shown], { now: time }))
+  if (sign === undefined && alg !== undefined) throw new TypeError('alg is the algorithm of sign, which is missing')
+  if (check === undefined && sign === undefined) {
+    return text(call(OP.present, [bytesOf('order', order), shown], { now: time }))
+  }
   if (check === undefined) throw new TypeError('check is missing: it checks the signature of the issuer')
+  functionOf('check', check)
   const signer = sign === undefined ? undefined : await signerOf(sign, alg)
   const file = bytesOf('order', signer === undefined ? order : withAlg(order, signer.alg))
   let issuer = 0
   let asked = await call(OP.presentAsk, [file, shown], { now: time, issuer })
   if (asked.status === STATUS.asks) {
-    issuer = await saidOf(check, asked.answer)
+    issuer = await saidOf(check, questionOf(asked.answer))
     asked = await call(OP.presentAsk, [file, shown], { now: time, issuer })
   }
   if (asked.status !== STATUS.toSign) return line(asked.answer)
@@ -141,6 +143,8 @@ export async function audit(order, token) {
 
 /** Of 1 to 64 tokens the one that answers a query with the fewest disclosures. */
 export async function wallet(query, tokens) {
+  const isList = tokens !== null && typeof tokens === 'object' && typeof tokens[Symbol.iterator] === 'function'
+  if (!isList) throw new TypeError('tokens is no list of tokens')
   const files = Array.from(tokens, (token, at) => bytesOf(`token ${at}`, token))
   if (files.length < 1 || files.length > 64) throw new RangeError(`there are ${files.length} tokens, and not 1 to 64`)
   const said = await text(call(OP.wallet, [bytesOf('query', query), ...files]))
@@ -148,11 +152,21 @@ export async function wallet(query, tokens) {
   return { index: Number(picked.slice('credential '.length)), token }
 }
 
+function functionOf(name, value) {
+  if (value !== undefined && typeof value !== 'function') throw new TypeError(`${name} is no function`)
+}
+
+function namesOf(algs) {
+  const isList = Array.isArray(algs) && algs.every((name) => typeof name === 'string')
+  if (algs !== undefined && !isList) throw new TypeError('holderAlgs is no array of strings')
+}
+
 /** A policy that is read once. Its calls run side by side. */
 export class Policy {
   #bytes
   // handles with the nonce of the policy, and those that had another one
   #free = { own: [], other: [] }
+  #isClosed = false
 
   constructor(policy) {
     // a copy, which nobody else changes
@@ -168,16 +182,26 @@ export class Policy {
 
   /** Calls with a handle that no other call has. */
   async #with(nonce, use) {
+    if (this.#isClosed) throw new Error('the policy is closed')
     const free = nonce === undefined ? this.#free.own : this.#free.other
     const handle = free.pop() ?? this.#read()
-    if (nonce !== undefined) {
-      callNow(OP.policyNonce, [encoded(nonce)], { handle }, 'the policy has no binding, or nonce has more than 256 bytes')
-    }
     try {
+      if (nonce !== undefined) {
+        const misused = 'the policy has no binding, or nonce has more than 256 bytes'
+        callNow(OP.policyNonce, [encoded(nonce)], { handle }, misused)
+      }
       return await use(handle)
     } finally {
-      if (free.length < HANDLES_KEPT) free.push(handle)
+      if (this.#isClosed || free.length >= HANDLES_KEPT) freeHandle(handle)
+      else free.push(handle)
     }
+  }
+
+  /** Frees the memory now. Calls that have begun end as usual, and later ones are rejected. */
+  close() {
+    this.#isClosed = true
+    for (const handle of Object.values(this.#free).flatMap((free) => free.splice(0))) freeHandle(handle)
+    this.#bytes = new Uint8Array(0)
   }
 
   /** The claims of a token that the policy accepts, as JSON. */
@@ -185,7 +209,9 @@ export class Policy {
     const time = moment(now)
     const bytes = bytesOf('token', token)
     if (nonce !== undefined && typeof nonce !== 'string') throw new TypeError('nonce is no string')
-    if (check === undefined && holderAlgs !== undefined) throw new TypeError('holderAlgs is for check, which is missing')
+    if (check === undefined && holderAlgs !== undefined) throw new TypeError('holderAlgs needs check, which is missing')
+    functionOf('check', check)
+    namesOf(holderAlgs)
     return this.#with(nonce, (handle) => check === undefined
       ? text(call(OP.policyVerify, [bytes], { now: time, handle }))
       : judged(handle, bytes, time, check, holderAlgs))
@@ -204,13 +230,18 @@ async function judged(handle, token, now, check, holderAlgs) {
   for (;;) {
     const { status, answer } = await call(OP.policyJudge, [algs, token], { now, handle, ...said })
     if (status !== STATUS.asks) return line(answer)
-    const whose = questionOf(answer).whose
-    if (said[whose] !== 0) throw new Error('a signature is asked about twice')
-    said[whose] = await saidOf(check, answer)
+    const question = questionOf(answer)
+    if (said[question.whose] !== 0) throw new Error('a signature is asked about twice')
+    said[question.whose] = await saidOf(check, question)
   }
 }
 
 /** The claims of a token that a policy accepts; for many tokens keep a Policy. */
 export async function verify(policy, token, options) {
-  return new Policy(policy).verify(token, options)
+  const read = new Policy(policy)
+  try {
+    return await read.verify(token, options)
+  } finally {
+    read.close()
+  }
 }

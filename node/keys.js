@@ -6,19 +6,26 @@ const { subtle } = webcrypto
 
 const EC = { ES256: ['P-256', 'SHA-256', 64], ES384: ['P-384', 'SHA-384', 96], ES512: ['P-521', 'SHA-512', 132] }
 const RSA_BITS = 2048
+// The field of Ed25519, and the y of every point whose order divides 8 (RFC 8032 section 5.1): under such a key anyone
+// can forge signatures.
+const FIELD = 2n ** 255n - 19n
+const OF_ORDER_8 = 0x7a03ac9277fdc74ec6cc392cfa53202a0f67100d760b3cba4fd84d3d706a17c7n
+const OF_SMALL_ORDER = [0n, 1n, FIELD - 1n, OF_ORDER_8, FIELD - OF_ORDER_8]
 
 /** The parameters of WebCrypto for an algorithm of a JWS (RFC 7518, RFC 8037), or undefined. */
 function parametersOf(alg) {
   const hash = `SHA-${alg.slice(2)}`
   if (Object.hasOwn(EC, alg)) {
     const [namedCurve, ecHash, length] = EC[alg]
-    return { kty: 'EC', crv: namedCurve, length, key: { name: 'ECDSA', namedCurve }, sign: { name: 'ECDSA', hash: ecHash } }
+    const sign = { name: 'ECDSA', hash: ecHash }
+    return { kty: 'EC', crv: namedCurve, length, key: { name: 'ECDSA', namedCurve }, sign }
   }
   if (alg === 'EdDSA' || alg === 'Ed25519') {
     return { kty: 'OKP', crv: 'Ed25519', length: 64, key: { name: 'Ed25519' }, sign: { name: 'Ed25519' } }
   }
   if (/^PS(256|384|512)$/.test(alg)) {
-    return { kty: 'RSA', key: { name: 'RSA-PSS', hash }, sign: { name: 'RSA-PSS', saltLength: Number(alg.slice(2)) / 8 } }
+    const sign = { name: 'RSA-PSS', saltLength: Number(alg.slice(2)) / 8 }
+    return { kty: 'RSA', key: { name: 'RSA-PSS', hash }, sign }
   }
   if (/^RS(256|384|512)$/.test(alg)) {
     return { kty: 'RSA', key: { name: 'RSASSA-PKCS1-v1_5', hash }, sign: { name: 'RSASSA-PKCS1-v1_5' } }
@@ -32,8 +39,16 @@ function named(alg) {
   return alg === 'EdDSA' ? 'Ed25519' : alg
 }
 
-/** Whether a JWK may check signatures of an algorithm: by its type, and by what it says of itself (RFC 7517 section 4). */
+/** Whether a CryptoKey may check signatures of an algorithm. */
+function keyFits({ algorithm, type, usages }, parameters) {
+  const { name, namedCurve, hash } = parameters.key
+  return usages.includes('verify') && (type === 'public' || parameters.kty === 'oct') && algorithm.name === name &&
+    algorithm.namedCurve === namedCurve && algorithm.hash?.name === hash
+}
+
+/** Whether a key may check signatures of an algorithm: by its type, and by the members of a JWK (RFC 7517). */
 function fits(jwk, alg, parameters) {
+  if (jwk?.key !== undefined) return types.isCryptoKey(jwk.key) && keyFits(jwk.key, parameters)
   return jwk !== null && typeof jwk === 'object' && jwk.kty === parameters.kty &&
     (parameters.crv === undefined || jwk.crv === parameters.crv) &&
     (jwk.use === undefined || jwk.use === 'sig') &&
@@ -46,12 +61,24 @@ function publicHalf({ kty, crv, x, y, n, e, k }) {
   return JSON.parse(JSON.stringify({ kty, crv, x, y, n, e, k }))
 }
 
+/** A key as WebCrypto has it. A key that is too weak for its algorithm is an error. */
 async function imported(jwk, parameters) {
-  if (jwk.kty === 'oct' && Buffer.from(String(jwk.k), 'base64url').length * 8 < Number(parameters.key.hash.slice(4))) {
-    throw new RangeError('the key is shorter than the hash')
-  }
-  const key = await subtle.importKey('jwk', publicHalf(jwk), parameters.key, false, ['verify'])
-  if (parameters.kty === 'RSA' && key.algorithm.modulusLength < RSA_BITS) throw new RangeError('the key is too short')
+  const key = jwk.key ?? await subtle.importKey('jwk', publicHalf(jwk), parameters.key, true, ['verify'])
+  if (parameters.crv === 'Ed25519') return ofLargeOrder(key)
+  return longEnough(key, parameters)
+}
+
+async function ofLargeOrder(key) {
+  const bytes = new Uint8Array(await subtle.exportKey('raw', key))
+  const y = bytes.reduceRight((sum, byte) => sum * 256n + BigInt(byte), 0n) % 2n ** 255n
+  if (y >= FIELD || OF_SMALL_ORDER.includes(y)) throw new RangeError('the key is a point of small order')
+  return key
+}
+
+function longEnough(key, parameters) {
+  const { modulusLength, length, hash } = key.algorithm
+  if (parameters.kty === 'RSA' && modulusLength < RSA_BITS) throw new RangeError('the key is too short')
+  if (parameters.kty === 'oct' && length < Number(hash.name.slice(4))) throw new RangeError('the key is too short')
   return key
 }
 
@@ -62,22 +89,34 @@ async function isGood(jwk, question, parameters) {
   return subtle.verify(parameters.sign, key, question.signature, question.text)
 }
 
-/** The keys of a set among which the one of a question is: those of its `kid`, or all, that fit its algorithm. */
+/**
+ * The keys of a set among which the one of a question is: those of its `kid`, or all, that fit its algorithm. A bare
+ * CryptoKey has no `kid`, so it is one of them for any.
+ */
 function candidates(keys, question, parameters) {
   const fitting = keys.filter((jwk) => fits(jwk, question.alg, parameters))
-  return question.kid === undefined ? fitting : fitting.filter((jwk) => jwk.kid === question.kid)
+  return fitting.filter((jwk) => question.kid === undefined || jwk.isBare || jwk.kid === question.kid)
+}
+
+/** The entries of a set of keys: JWKs, CryptoKeys, and objects with a CryptoKey, `key`, and its `kid`. */
+function entries(name, keys) {
+  if (keys === null || typeof keys !== 'object' || typeof keys[Symbol.iterator] !== 'function') {
+    throw new TypeError(`${name} is no list of keys`)
+  }
+  return Array.from(keys, (key) => (types.isCryptoKey(key) ? { key, isBare: true } : key))
 }
 
 /**
- * A `check` over public keys, and symmetric ones for an HMAC: `issuers` are the JWKs of the issuers. The holder's key is the one
- * of `cnf`: `jwk` itself, or the one of `holders` that has its `kid`.
+ * A `check` over public keys, and symmetric ones for an HMAC: `issuers` are the keys of the issuers. The holder's key
+ * is the one of `cnf`: `jwk` itself, or the one of `holders` that has its `kid`.
  */
 export function checkBy({ issuers, holders = [] }) {
+  const [ofIssuers, ofHolders] = [entries('issuers', issuers), entries('holders', holders)]
   return async (question) => {
     const parameters = parametersOf(question.alg)
     if (parameters === undefined) return null
-    const keys = question.whose === 'issuer' ? candidates(issuers, question, parameters)
-      : holderKeys(question, holders).filter((jwk) => fits(jwk, question.alg, parameters))
+    const keys = question.whose === 'issuer' ? candidates(ofIssuers, question, parameters)
+      : holderKeys(question, ofHolders).filter((jwk) => fits(jwk, question.alg, parameters))
     if (keys.length === 0) return null
     for (const jwk of keys) {
       try {
@@ -90,9 +129,16 @@ export function checkBy({ issuers, holders = [] }) {
   }
 }
 
+/** The JWK of `cnf`, if it is one of a key pair: only its own members, since it came in a token. */
+function jwkOf(said) {
+  if (said === null || typeof said !== 'object' || said.kty === 'oct') return []
+  const { kty, crv, x, y, n, e, use, key_ops: operations, alg } = said
+  return [{ kty, crv, x, y, n, e, use, key_ops: operations, alg }]
+}
+
 function holderKeys(question, holders) {
   const cnf = question.payload?.cnf
-  if (cnf?.jwk !== undefined) return cnf.jwk.kty === 'oct' ? [] : [cnf.jwk]
+  if (cnf?.jwk !== undefined) return jwkOf(cnf.jwk)
   return typeof cnf?.kid === 'string' ? holders.filter((jwk) => jwk?.kid === cnf.kid) : []
 }
 
@@ -127,7 +173,9 @@ async function privateKey(jwk, alg) {
   if (jwk === null || typeof jwk !== 'object') throw new TypeError('sign is no CryptoKey, no JWK and no function')
   const named = alg ?? jwk.alg ?? USUAL[`${jwk.kty} ${jwk.crv}`]
   const parameters = named === undefined ? undefined : parametersOf(named)
-  if (parameters === undefined || parameters.kty === 'oct') throw new TypeError('the algorithm of the key is not known: give alg')
+  if (parameters === undefined || parameters.kty === 'oct') {
+    throw new TypeError('the algorithm of the key is not known: give alg')
+  }
   const { use, key_ops: operations, ext, kid, alg: own, ...bare } = jwk
   return subtle.importKey('jwk', bare, parameters.key, false, ['sign'])
 }

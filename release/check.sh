@@ -159,6 +159,33 @@ for page in "$top/python/README.md" "$made"/archive/*/README.md; do
         skip 'the wheel with its extra (no pip)'
     fi
 done
+# The crate and the package for Node.js, as a user takes them from the release, by the checks of their folders. The
+# crate is linked with the library of the archive.
+mkdir "$made/crate"
+tar -x -z -f "$out"/sdjwt-*.crate -C "$made/crate"
+told_beside() {
+    cmp "$out/PROVENANCE" "$1/PROVENANCE" && cmp "$1/THIRD-PARTY.txt" "$(echo "$made"/archive/*/THIRD-PARTY.txt)" &&
+        cmp "$top/LICENSE-MIT" "$1/LICENSE-MIT" && cmp "$top/LICENSE-APACHE" "$1/LICENSE-APACHE"
+}
+option=
+[ "$install" = no ] || option=--install
+holds 'the crate has PROVENANCE and the notices' told_beside "$made/crate/sdjwt-$version"
+holds 'the list of the crate' python3 -B "$here/sbom.py" --source "$made/crate/sdjwt-$version"
+if command -v cargo >/dev/null || [ "$install" = yes ]; then
+    holds 'the crate, with the library of the archive' env SDJWT_DIR="$(echo "$made"/archive/*)" \
+        CRATE="$made/crate/sdjwt-$version" sh "$top/rust/check.sh" $option
+else
+    skip 'the crate (no cargo)'
+fi
+if [ -f "$out/sdjwt-$whole.tgz" ]; then
+    mkdir "$made/node"
+    tar -x -z -f "$out/sdjwt-$whole.tgz" -C "$made/node"
+    holds 'the package for Node.js has PROVENANCE and the notices' told_beside "$made/node/package"
+    holds 'the list of what is linked into it' python3 -B "$here/sbom.py" "$made/node/package"
+    holds 'the package for Node.js' env PACKED="$out/sdjwt-$whole.tgz" sh "$top/node/check.sh" $option
+else
+    skip "the package for Node.js ($(sed -n 's/^no package for Node.js: //p' "$out/PROVENANCE"))"
+fi
 judged() {
     lintian --allow-root --profile debian --fail-on error "$out"/*.deb >"$made/lintian" || {
         cat "$made/lintian"

@@ -16,7 +16,7 @@ fn main() {
         Some(folder) => Path::new(&folder).join("lib"),
         None => by_pkg_config(),
     };
-    let is_dynamic = env::var_os("SDJWT_DYNAMIC").is_some_and(|said| said == "1");
+    let is_dynamic = env::var_os("SDJWT_DYNAMIC").map_or(false, |said| said == "1");
     let (kind, file) = if is_dynamic { ("dylib", "libsdjwt.so") } else { ("static", "libsdjwt.a") };
     assert!(
         folder.join(file).is_file(),

@@ -1,6 +1,7 @@
 // Calls side by side, the event loop, numbers of 64 bits, and wrong hands.
 import assert from 'node:assert/strict'
 import { test } from 'node:test'
+import { readFileSync } from 'node:fs'
 import { Worker, isMainThread, parentPort } from 'node:worker_threads'
 import * as sdjwt from '../index.js'
 
@@ -13,7 +14,8 @@ async function shown(seat, nonce) {
   return sdjwt.present({ keys, want: ['/seat'], binding: { key, kid: 'a', aud: 'door', nonce } }, ticket, { now })
 }
 
-const door = () => new sdjwt.Policy({ keys, require: ['seat'], binding: { aud: 'door', nonce: 'own', max_age: 60, keys } })
+const binding = { aud: 'door', nonce: 'own', max_age: 60, keys }
+const door = () => new sdjwt.Policy({ keys, require: ['seat'], binding })
 
 if (!isMainThread) {
   const token = await shown('B12', 'own')
@@ -28,7 +30,10 @@ if (!isMainThread) {
     await Promise.all(Array.from({ length: 2000 }, async (_, i) => {
       const at = i % 16
       if (i % 3 === 0) return assert.equal((await policy.verify(own, { now })).seat, 'own seat')
-      if (i % 3 === 1) return assert.equal((await policy.verify(tokens[at], { now, nonce: `nonce ${at}` })).seat, `seat ${at}`)
+      if (i % 3 === 1) {
+        const { seat } = await policy.verify(tokens[at], { now, nonce: `nonce ${at}` })
+        return assert.equal(seat, `seat ${at}`)
+      }
       return assert.rejects(policy.verify(tokens[at], { now, nonce: `nonce ${at + 1}` }), { name: 'nonceDiffers' })
     }))
   })
@@ -46,6 +51,12 @@ if (!isMainThread) {
     assert.ok(ticks > 10, `the loop turned ${ticks} times`)
   })
 
+  test('the version is that of the library', () => {
+    const { version } = JSON.parse(readFileSync(new URL('../package.json', import.meta.url)))
+    assert.equal(sdjwt.version, version.split('+')[0])
+    assert.equal(typeof sdjwt.isProved, 'boolean')
+  })
+
   test('worker threads', async () => {
     const workers = Array.from({ length: 4 }, () => new Worker(new URL(import.meta.url)))
     const said = await Promise.all(workers.map((worker) => new Promise((resolve, reject) => {
@@ -56,12 +67,13 @@ if (!isMainThread) {
   })
 
   test('numbers that JavaScript can not hold', async () => {
-    const payload = { least: -(2n ** 63n), most: 2n ** 64n - 1n, text: `1${'0'.repeat(30)}`, list: [9007199254740993n, 7] }
+    const payload = { least: -(2n ** 63n), most: 2n ** 64n - 1n, text: '100000000000000000000' }
+    payload.list = [9007199254740993n, 7]
     const token = await sdjwt.issue({ payload, key })
     const claims = await sdjwt.verify({ keys }, token)
     assert.deepEqual(claims, payload)
-    assert.equal(await new sdjwt.Policy({ keys }).verifyText(token, { now }),
-      '{"least":-9223372036854775808,"list":[9007199254740993,7],"most":18446744073709551615,"text":"1000000000000000000000000000000"}')
+    assert.equal(await new sdjwt.Policy({ keys }).verifyText(token, { now }), '{"least":-9223372036854775808,' +
+      '"list":[9007199254740993,7],"most":18446744073709551615,"text":"100000000000000000000"}')
   })
 
   test('seeds', async () => {
@@ -69,7 +81,9 @@ if (!isMainThread) {
     const seed = new Uint8Array(32).fill(7)
     assert.equal(await sdjwt.issue(order, { seed }), await sdjwt.issue(order, { seed }))
     assert.notEqual(await sdjwt.issue(order), await sdjwt.issue(order))
-    for (const length of [0, 31, 33]) await assert.rejects(sdjwt.issue(order, { seed: new Uint8Array(length) }), RangeError)
+    for (const length of [0, 31, 33]) {
+      await assert.rejects(sdjwt.issue(order, { seed: new Uint8Array(length) }), RangeError)
+    }
     await assert.rejects(sdjwt.issue(order, { seed: '7'.repeat(32) }), TypeError)
   })
 
@@ -90,7 +104,9 @@ if (!isMainThread) {
     await assert.rejects(sdjwt.convert('other', 'x'), RangeError)
     await assert.rejects(sdjwt.issue({ payload: {} }, { alg: 'ES256' }), TypeError)
     await assert.rejects(sdjwt.issue({ payload: {} }, { sign: () => new Uint8Array(0), alg: 'ES256' }), RangeError)
-    for (const alg of ['', 'none']) await assert.rejects(sdjwt.issue({ payload: {} }, { sign: () => new Uint8Array(1), alg }), RangeError)
+    for (const alg of ['', 'none']) {
+      await assert.rejects(sdjwt.issue({ payload: {} }, { sign: () => new Uint8Array(1), alg }), RangeError)
+    }
   })
 
   test('bytes that are no token', async () => {
@@ -102,7 +118,8 @@ if (!isMainThread) {
   })
 
   test('a wallet, an audit and forms', async () => {
-    const tickets = await Promise.all(['A1', 'B12'].map((seat) => sdjwt.issue({ payload: { seat }, hide: ['/seat'], key, kid: 'a' })))
+    const ticket = (seat) => sdjwt.issue({ payload: { seat }, hide: ['/seat'], key, kid: 'a' })
+    const tickets = await Promise.all(['A1', 'B12'].map(ticket))
     const query = { keys, equal: [{ at: '/seat', value: 'B12' }] }
     assert.equal((await sdjwt.wallet(query, tickets)).index, 1)
     await assert.rejects(sdjwt.wallet(query, tickets.slice(0, 1)), { name: 'noCredentialAnswers', number: 77 })
@@ -116,7 +133,8 @@ if (!isMainThread) {
   })
 
   test('an error says what to do', async () => {
-    const error = await sdjwt.verify({ keys, require: ['age'] }, await sdjwt.issue({ payload: {}, key })).catch((fault) => fault)
+    const token = await sdjwt.issue({ payload: {}, key })
+    const error = await sdjwt.verify({ keys, require: ['age'] }, token).catch((fault) => fault)
     assert.ok(error instanceof sdjwt.Refused && error instanceof Error)
     assert.equal(error.line, 'refused 23 claimMissing at 0')
     assert.ok(error.message.startsWith(`${error.line}: `) && error.remedy !== '')

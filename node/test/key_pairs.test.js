@@ -38,10 +38,21 @@ test('the presentation of RFC 9901, and each letter changed', async () => {
   }
 })
 
+test('the issued token of RFC 9901, and each letter changed', async () => {
+  const policy = new sdjwt.Policy({ keys: { keys: [] }, algs: ['ES256'] })
+  const [token, { check, now }] = [rfc('issued.txt'), RFC.options]
+  assert.equal((await policy.verify(token, { check, now })).iss, 'https://issuer.example.com')
+  for (let at = 0; at < token.length; at += 1) {
+    const changed = token.slice(0, at) + (token[at] === 'A' ? 'B' : 'A') + token.slice(at + 1)
+    await assert.rejects(policy.verify(changed, { check, now }), sdjwt.Refused, `letter ${at}`)
+  }
+})
+
 test('three ends with every algorithm', async () => {
   for (const alg of Object.keys(PARAMETERS)) {
     const [office, ada, other] = await Promise.all([pair(alg), pair('ES256'), pair(alg)])
-    const order = { payload: { iss: 'tickets', cnf: { jwk: ada.jwk }, name: 'Ada', seat: 'B12' }, hide: ['/name', '/seat'] }
+    const payload = { iss: 'tickets', cnf: { jwk: ada.jwk }, name: 'Ada', seat: 'B12' }
+    const order = { payload, hide: ['/name', '/seat'] }
     const ticket = await sdjwt.issue(order, { sign: office.privateKey, alg })
     const wish = { algs: [alg], want: ['/seat'], never: ['/name'], binding: { aud: 'door', nonce: '4711' } }
     const check = sdjwt.checkBy({ issuers: [office.jwk] })
@@ -78,7 +89,9 @@ test('a key fits its algorithm', async () => {
   const policy = new sdjwt.Policy({ keys: { keys: [] }, algs: ['ES256', 'HS256', 'ES384'] })
   const verdict = (...issuers) => policy.verify(token, { check: sdjwt.checkBy({ issuers }) })
   assert.deepEqual(await verdict({ ...jwk, kid: 'a' }), {})
-  for (const more of [{ kid: 'b' }, { use: 'enc' }, { alg: 'ES384' }, { key_ops: ['sign'] }, { kty: 'RSA' }, { crv: 'P-384' }]) {
+  const ofJwk = [{ kid: 'b' }, { use: 'enc' }, { alg: 'ES384' }, { key_ops: ['sign'] }]
+  const unfit = [...ofJwk, { kty: 'RSA' }, { crv: 'P-384' }]
+  for (const more of unfit) {
     await assert.rejects(verdict({ ...jwk, kid: 'a', ...more }), { name: 'issuerKeyUnknown' }, JSON.stringify(more))
   }
   for (const wrong of [{ x: 'AA' }, { y: jwk.x }, { x: 1 }]) {
@@ -87,7 +100,53 @@ test('a key fits its algorithm', async () => {
   await assert.rejects(verdict(null, 3, 'key', {}), { name: 'issuerKeyUnknown' })
   // an HMAC under the bytes of a public key
   const forged = await sdjwt.issue({ payload: {}, key: jwk.x, kid: 'a' })
-  await assert.rejects(policy.verify(forged, { check: sdjwt.checkBy({ issuers: [{ ...jwk, kid: 'a' }] }) }), { name: 'issuerKeyUnknown' })
+  const check = sdjwt.checkBy({ issuers: [{ ...jwk, kid: 'a' }] })
+  await assert.rejects(policy.verify(forged, { check }), { name: 'issuerKeyUnknown' })
+})
+
+test('a CryptoKey checks, with a kid and without', async () => {
+  for (const alg of Object.keys(PARAMETERS)) {
+    const { privateKey, publicKey } = await subtle.generateKey(PARAMETERS[alg], false, ['sign', 'verify'])
+    const other = await subtle.generateKey(PARAMETERS[alg], false, ['sign', 'verify'])
+    const token = await sdjwt.issue({ payload: { seat: 'B12' }, kid: 'a' }, { sign: privateKey, alg })
+    const policy = new sdjwt.Policy({ keys: { keys: [] }, algs: Object.keys(PARAMETERS) })
+    const verdict = (...issuers) => policy.verify(token, { check: sdjwt.checkBy({ issuers }) })
+    for (const good of [publicKey, { key: publicKey, kid: 'a' }]) {
+      assert.deepEqual(await verdict(other.publicKey, good), { seat: 'B12' }, alg)
+    }
+    await assert.rejects(verdict(other.publicKey), { name: 'badSignature' }, alg)
+    for (const unfit of [{ key: publicKey, kid: 'b' }, { key: publicKey }, privateKey, { key: {}, kid: 'a' }]) {
+      await assert.rejects(verdict(unfit), { name: 'issuerKeyUnknown' }, alg)
+    }
+  }
+})
+
+test('a symmetric CryptoKey or JWK checks an HMAC, and no public key does', async () => {
+  const k = 'AQEBAQEBAQEBAQEBAQEBAQEBAQEBAQEBAQEBAQEBAQE'
+  const algorithm = { name: 'HMAC', hash: 'SHA-256' }
+  const secret = await subtle.importKey('raw', Buffer.from(k, 'base64url'), algorithm, false, ['verify'])
+  const short = await subtle.importKey('raw', Buffer.alloc(16, 1), algorithm, false, ['verify'])
+  const token = await sdjwt.issue({ payload: {}, key: k })
+  const policy = new sdjwt.Policy({ keys: { keys: [] }, algs: ['HS256'] })
+  const verdict = (...issuers) => policy.verify(token, { check: sdjwt.checkBy({ issuers }) })
+  for (const key of [secret, { kty: 'oct', k }]) assert.deepEqual(await verdict(key), {})
+  for (const key of [short, { kty: 'oct', k: 'AQEB' }, { kty: 'oct' }]) {
+    await assert.rejects(verdict(key), { name: 'badSignature' })
+  }
+  await assert.rejects(verdict((await pair('ES256')).jwk), { name: 'issuerKeyUnknown' })
+})
+
+test('a point of small order is no key of Ed25519', async () => {
+  // under the point 1, R = 1 and S = 0 is a signature of every text
+  const signature = new Uint8Array(64)
+  signature[0] = 1
+  const token = await sdjwt.issue({ payload: {} }, { sign: () => signature, alg: 'EdDSA' })
+  const policy = new sdjwt.Policy({ keys: { keys: [] }, algs: ['EdDSA'] })
+  const x = Buffer.from(Uint8Array.of(1, ...new Uint8Array(31))).toString('base64url')
+  const jwk = { kty: 'OKP', crv: 'Ed25519', x }
+  await assert.rejects(policy.verify(token, { check: sdjwt.checkBy({ issuers: [jwk] }) }), { name: 'badSignature' })
+  const key = await subtle.importKey('jwk', jwk, { name: 'Ed25519' }, true, ['verify'])
+  await assert.rejects(policy.verify(token, { check: sdjwt.checkBy({ issuers: [key] }) }), { name: 'badSignature' })
 })
 
 test('what check says', async () => {
@@ -97,7 +156,7 @@ test('what check says', async () => {
   await assert.rejects(policy.verify(token, { check: () => null }), { number: 9 })
   await assert.rejects(policy.verify(token, { check: () => false }), { number: 10 })
   assert.deepEqual(await policy.verify(token, { check: async () => true }), {})
-  for (const wrong of [undefined, 1, 'true', {}, []]) {
+  for (const wrong of [undefined, 1, 'true', {}, [], [true], new Boolean(true), { toString: () => 'true' }]) {
     await assert.rejects(policy.verify(token, { check: () => wrong }), TypeError, String(wrong))
   }
   const fault = new Error('no connection')

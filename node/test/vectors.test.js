@@ -12,7 +12,8 @@ const COUNTS = { issue: [2], present: [2], verify: [2], convert: [2], show: [1],
 const numbers = (text) => JSON.parse(text.replace(/("moment": )(\d+)/g, '$1"$2"'))
 
 async function answerOf([command, ...names], files, now) {
-  if (command === 'wallet' ? names.length < 2 || names.length > 65 : !COUNTS[command]?.includes(names.length)) return null
+  const isCount = command === 'wallet' ? names.length > 1 && names.length < 66 : COUNTS[command]?.includes(names.length)
+  if (!isCount) return null
   const form = command === 'convert' ? names.shift() : undefined
   if (form !== undefined && !['compact', 'flat', 'general'].includes(form)) return null
   const read = names.map((name) => files.get(name))
@@ -49,7 +50,8 @@ async function leftBy(vector, files) {
     }
     if (run.kept_as !== undefined) {
       const { output } = left
-      files.set(run.kept_as, new TextEncoder().encode(typeof output === 'string' ? `${output}\n` : JSON.stringify(output.json)))
+      const kept = typeof output === 'string' ? `${output}\n` : JSON.stringify(output.json)
+      files.set(run.kept_as, new TextEncoder().encode(kept))
     }
   }
   return left
@@ -65,7 +67,8 @@ test('all vectors', async () => {
         leftOut += 1
         continue
       }
-      const due = vector.output_of_file === undefined ? vector.output : `${Buffer.from(files.get(vector.output_of_file))}\n`
+      const file = files.get(vector.output_of_file)
+      const due = file === undefined ? vector.output : `${Buffer.from(file)}\n`
       assert.deepEqual([left.status, left.line], [vector.status, vector.line], vector.name)
       if (typeof left.output === 'string') assert.equal(left.status === 0 ? `${left.output}\n` : '', due, vector.name)
       else assert.deepEqual(JSON.parse(JSON.stringify(left.output.json, exact)), JSON.parse(due), vector.name)

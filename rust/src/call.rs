@@ -1,7 +1,7 @@
 //! One call of the library: its buffer, and what its status means.
 
 use crate::error::Error;
-use crate::ffi::Room;
+use crate::ffi::{self, Room};
 
 /// The statuses of `sdjwt.h`.
 pub(crate) const DONE: u8 = 0;
@@ -35,13 +35,16 @@ impl Answer {
     }
 }
 
-/// Calls with a buffer that is mostly long enough, and once more if it is not. `misused` says which rule is broken if the
-/// status is `SDJWT_USAGE`.
+/// Calls with a buffer that is mostly long enough, and once more if it is not. `misused` says which rule is broken if
+/// the status is `SDJWT_USAGE`.
 pub(crate) fn answer(
     room: usize,
     misused: &'static str,
     mut call: impl FnMut(Room<'_>) -> u8,
 ) -> Result<Answer, Error> {
+    if !ffi::has_stack() {
+        return Err(Error::OutOfStack);
+    }
     let mut bytes = vec![0; room];
     let mut len = 0;
     let mut status = call(Room { out: &mut bytes, len: &mut len });

@@ -16,6 +16,8 @@ pub enum Error {
     Misused(&'static str),
     /// There is not enough memory.
     OutOfMemory,
+    /// The thread has less than 512 KiB of its stack left, which a call may need. The library was not called.
+    OutOfStack,
     /// The library does what its header does not allow. This is a bug; please report it.
     Library(&'static str),
 }
@@ -168,6 +170,7 @@ impl fmt::Display for Error {
             Self::Unreadable(unreadable) => unreadable.fmt(to),
             Self::Misused(rule) => write!(to, "a wrong argument: {rule}"),
             Self::OutOfMemory => to.write_str("out of memory"),
+            Self::OutOfStack => to.write_str("a call needs 512 KiB of stack, and this thread has less left"),
             Self::Library(fault) => write!(to, "a bug in the library: {fault}"),
         }
     }

@@ -7,7 +7,10 @@
 //! - the library keeps no pointer behind a call, but for the policy that a handle holds;
 //! - a handle is borrowed mutably, so one call at a time has it; [`Handle`] frees it once, in its `drop`.
 
-use std::ffi::{c_char, c_int, c_void, CStr};
+use std::cell::Cell;
+use std::ffi::CStr;
+use std::mem::MaybeUninit;
+use std::os::raw::{c_char, c_int, c_void};
 use std::ptr;
 
 /// What a call writes, and how long that is.
@@ -187,7 +190,8 @@ extern "C" {
     ) -> u8;
     fn sdjwt_policy_nonce(handle: *mut RawPolicy, nonce: *const u8, nonce_len: usize) -> u8;
     fn sdjwt_policy_verify(
-        handle: *mut RawPolicy, token: *const u8, token_len: usize, now: u64, out: *mut u8, room: usize, len: *mut usize,
+        handle: *mut RawPolicy, token: *const u8, token_len: usize, now: u64,
+        out: *mut u8, room: usize, len: *mut usize,
     ) -> u8;
     fn sdjwt_policy_judge(
         handle: *mut RawPolicy, algs: *const u8, algs_len: usize, token: *const u8, token_len: usize, now: u64,
@@ -266,4 +270,52 @@ impl Drop for Handle {
         // SAFETY: the handle holds what the library put there, and nobody uses it from here on.
         unsafe { sdjwt_policy_free(&mut self.0) }
     }
+}
+
+/// The bytes of stack that a call may need. The deepest inputs took half of it, and the header promises that 1 MiB is
+/// enough: a thread that has just this much has to be one that can call.
+const STACK_NEEDED: usize = 512 * 1024;
+
+/// The attributes of a thread, as `pthread.h` of glibc lays them out: 56 bytes on x86-64.
+#[repr(C, align(16))]
+struct Attributes([u8; 128]);
+
+extern "C" {
+    fn pthread_self() -> usize;
+    fn pthread_getattr_np(thread: usize, attributes: *mut Attributes) -> c_int;
+    fn pthread_attr_getstack(attributes: *const Attributes, low: *mut *mut c_void, size: *mut usize) -> c_int;
+    fn pthread_attr_destroy(attributes: *mut Attributes) -> c_int;
+}
+
+thread_local! {
+    /// The address at which the stack of this thread ends, and 0 if nobody says it.
+    static STACK_END: Cell<Option<usize>> = const { Cell::new(None) };
+}
+
+/// Whether this thread has enough stack left for a call. In C too little of it ends the process, so each call asks
+/// before it begins.
+pub(crate) fn has_stack() -> bool {
+    let end = STACK_END.with(|kept| {
+        let end = kept.get().unwrap_or_else(stack_end);
+        kept.set(Some(end));
+        end
+    });
+    let here = ptr::addr_of!(end) as usize;
+    // below the end it is not the stack of the thread on which this runs
+    here < end || here - end >= STACK_NEEDED
+}
+
+fn stack_end() -> usize {
+    let mut attributes = MaybeUninit::<Attributes>::uninit();
+    let (mut low, mut size) = (ptr::null_mut(), 0);
+    // SAFETY: the attributes have more room than glibc writes; they are read and destroyed only if they were written,
+    // and `low` and `size` are mutable borrows.
+    let is_said = unsafe {
+        pthread_getattr_np(pthread_self(), attributes.as_mut_ptr()) == 0 && {
+            let is_said = pthread_attr_getstack(attributes.as_ptr(), &mut low, &mut size) == 0;
+            pthread_attr_destroy(attributes.as_mut_ptr());
+            is_said
+        }
+    };
+    if is_said { low as usize } else { 0 }
 }

@@ -11,7 +11,8 @@ const SIGNS: &str = "the algorithm is empty or `none`, or the signature is empty
 
 /// The token of an order (`docs/FILES.md`), which has a symmetric key.
 ///
-/// Whoever knows the seed can guess what is hidden: take its bytes from the system's random numbers, and use none twice.
+/// Anyone who knows the seed can guess the hidden claims: take its bytes from the system's random numbers, and use none
+/// twice.
 ///
 /// # Errors
 ///
@@ -24,12 +25,12 @@ pub fn issue(order: impl AsRef<[u8]>, seed: &[u8; SEED_LENGTH]) -> Result<String
 /// The token of an order that you sign.
 ///
 /// `order` has neither `key` nor `alg`. `alg` is the name of your algorithm, such as `ES256`. `sign` gets the text and
-/// returns the signature as a JWS has it (of ES256 the 64 bytes of r and s, RFC 7518 section 3.4, not DER); it is called
-/// at most once, and not if the order is refused by 51 to 60.
+/// returns the signature as a JWS has it (of ES256 the 64 bytes of r and s, RFC 7518 section 3.4, not DER); it is
+/// called at most once, and not if the order is refused by 51 to 60.
 ///
 /// # Errors
 ///
-/// As of [`issue`]; and the algorithm or the signature is [wrong](Error::Misused).
+/// The same as of [`issue`], and [`Error::Misused`] if the algorithm or the signature is wrong.
 pub fn issue_with(
     order: impl AsRef<[u8]>,
     alg: &str,

@@ -32,7 +32,8 @@
 //! # Key pairs
 //!
 //! With ES256, `EdDSA` and other key pairs you check and make the signatures, by the library that has your keys:
-//! [`Policy::verify_with`], [`issue_with`] and [`present_with`] call a function of yours with the text and the signature.
+//! [`Policy::verify_with`], [`issue_with`] and [`present_with`] call a function of yours with the text and the
+//! signature.
 //!
 //! # Errors
 //!
@@ -55,11 +56,59 @@ mod wallet;
 pub use claims::Claims;
 pub use error::{Error, Refused, Unreadable};
 pub use issuing::{issue, issue_with, SEED_LENGTH};
-pub use policy::{ForNonce, Policy};
+pub use policy::{verify, ForNonce, Policy};
 pub use presenting::{present, present_with};
 pub use question::{Question, Verdict, Whose};
 pub use reading::{audit, convert, show, split, Form};
 pub use wallet::{wallet, Picked, TOKENS_MAX};
+
+/// Runs the examples of the page.
+#[cfg(all(doctest, feature = "serde"))]
+#[doc = include_str!("../README.md")]
+mod readme {}
+
+/// Programs that must not compile. A nonce does not outlive its policy:
+///
+/// ```compile_fail,E0515
+/// fn kept(policy: sdjwt::Policy) -> sdjwt::ForNonce<'static> {
+///     policy.for_nonce("4711")
+/// }
+/// ```
+///
+/// A seed has 32 bytes:
+///
+/// ```compile_fail,E0308
+/// let token = sdjwt::issue("{}", &[7; 31]);
+/// ```
+///
+/// A check changes nothing that it borrows, since it may be called by many threads' calls of one policy:
+///
+/// ```compile_fail,E0594
+/// fn count(policy: &sdjwt::Policy, token: &str) -> u32 {
+///     let mut calls = 0;
+///     let _ = policy.verify_with(token, 0, &[], |_| {
+///         calls += 1;
+///         sdjwt::Verdict::Bad
+///     });
+///     calls
+/// }
+/// ```
+///
+/// What signs is called once, so it may give its signature away, but what checks may not:
+///
+/// ```compile_fail,E0507
+/// fn taken(policy: &sdjwt::Policy, token: &str, verdicts: Vec<sdjwt::Verdict>) {
+///     let _ = policy.verify_with(token, 0, &[], move |_| *Box::leak(verdicts.into_boxed_slice()).first().unwrap());
+/// }
+/// ```
+///
+/// The functions of C are private:
+///
+/// ```compile_fail,E0603
+/// let version = sdjwt::ffi::version();
+/// ```
+#[cfg(doctest)]
+mod must_not_compile {}
 
 /// The time now, in seconds since 1970, and 0 if the clock is before that.
 #[must_use]

@@ -21,7 +21,7 @@ pub struct Policy {
     asked: Mutex<Vec<Handle>>,
 }
 
-/// A policy with the nonce of one presentation in the place of its own.
+/// A policy with the nonce of one presentation instead of its own.
 #[derive(Clone, Copy, Debug)]
 pub struct ForNonce<'a> {
     policy: &'a Policy,
@@ -57,15 +57,15 @@ impl Policy {
         self.with_handle(None, |handle| verified(handle, token.as_ref(), now))
     }
 
-    /// The claims of a token that the policy accepts, where you check its signatures.
+    /// The claims of a token that the policy accepts; you check its signatures.
     ///
-    /// The policy's `algs` are the algorithms that you take of the issuer, and `holder_algs` those that you take of the
-    /// holder; its keys are not read. `check` is asked about the issuer's signature and, if that is good and the policy
-    /// has `binding`, about the holder's.
+    /// The policy's `algs` are the algorithms that you accept from issuers, and `holder_algs` the algorithms that you
+    /// accept from holders; if there are none, `algs` is for both. The policy's keys are not read. `check` is called
+    /// for the issuer's signature and, if that is good and the policy has `binding`, for the holder's.
     ///
     /// # Errors
     ///
-    /// The token is [refused](Error::Refused); or the name of an algorithm is [wrong](Error::Misused).
+    /// The token is [refused](Error::Refused), or the name of an algorithm is [wrong](Error::Misused).
     pub fn verify_with(
         &self,
         token: impl AsRef<[u8]>,
@@ -108,20 +108,22 @@ impl Policy {
 }
 
 impl ForNonce<'_> {
-    /// As [`Policy::verify`].
+    /// The same as [`Policy::verify`].
     ///
     /// # Errors
     ///
-    /// As of [`Policy::verify`]; and the nonce is [too long, or the policy has no `binding`](Error::Misused).
+    /// The same as of [`Policy::verify`], and if the nonce is [too long, or the policy has no
+    /// `binding`](Error::Misused).
     pub fn verify(&self, token: impl AsRef<[u8]>, now: u64) -> Result<Claims, Error> {
         self.policy.with_handle(Some(self.nonce), |handle| verified(handle, token.as_ref(), now))
     }
 
-    /// As [`Policy::verify_with`].
+    /// The same as [`Policy::verify_with`].
     ///
     /// # Errors
     ///
-    /// As of [`Policy::verify_with`]; and the nonce is [too long, or the policy has no `binding`](Error::Misused).
+    /// The same as of [`Policy::verify_with`], and if the nonce is [too long, or the policy has no
+    /// `binding`](Error::Misused).
     pub fn verify_with(
         &self,
         token: impl AsRef<[u8]>,
@@ -138,6 +140,16 @@ impl fmt::Debug for Policy {
     fn fmt(&self, to: &mut fmt::Formatter<'_>) -> fmt::Result {
         to.debug_struct("Policy").finish_non_exhaustive()
     }
+}
+
+/// The claims of a token that a policy accepts now, in seconds since 1970. The policy's keys are symmetric. For many
+/// tokens keep a [`Policy`].
+///
+/// # Errors
+///
+/// The policy is [unreadable](Error::Unreadable), or the token is [refused](Error::Refused).
+pub fn verify(policy: impl Into<Vec<u8>>, token: impl AsRef<[u8]>, now: u64) -> Result<Claims, Error> {
+    Policy::new(policy)?.verify(token, now)
 }
 
 /// Keeps a handle for a later call.
@@ -176,8 +188,11 @@ fn judged(
     }
 }
 
-/// Names of algorithms as a JSON list.
+/// Names of algorithms as a JSON list. No bytes stand for those of the policy.
 fn list_of(names: &[&str]) -> Result<Vec<u8>, Error> {
+    if names.is_empty() {
+        return Ok(Vec::new());
+    }
     let is_plain = |c: char| c.is_ascii_alphanumeric() || "-_.".contains(c);
     if !names.iter().all(|name| name.chars().all(is_plain)) {
         return Err(Error::Misused(ALGS));

@@ -7,8 +7,8 @@ use crate::question::{Question, Verdict};
 
 const SIGNS: &str = "the signature is empty";
 
-/// What is presented of a token, for a present order (`docs/FILES.md`) with symmetric keys. `now` is in seconds since
-/// 1970; a key binding token tells it.
+/// The holder's presentation of a token, for a present order (`docs/FILES.md`) with symmetric keys. `now` is in seconds
+/// since 1970; a key binding token has it.
 ///
 /// # Errors
 ///
@@ -19,15 +19,15 @@ pub fn present(order: impl AsRef<[u8]>, token: impl AsRef<[u8]>, now: u64) -> Re
     answer(room_for(&[order, token]), "", |room| ffi::present(order, token, now, room))?.text()
 }
 
-/// What is presented of a token, where you check the issuer's signature and make that of the key binding token.
+/// The holder's presentation of a token; you check the issuer's signature and sign the key binding token.
 ///
-/// `order` has no keys: in their place it has `algs`, the algorithms that you take of the issuer, and in `binding` the
-/// name `alg` of yours. `check` is asked at most once. `sign` gets the text of the key binding token, if the order asks
-/// for one, and returns the signature as a JWS has it; it is not called if the token or the order is refused.
+/// `order` has no keys. Instead it has `algs`, the algorithms that you accept from the issuer, and in `binding` the
+/// name `alg` of yours. `check` is called at most once. `sign` gets the text of the key binding token, if the order
+/// asks for one, and returns the signature as a JWS has it; it is not called if the token or the order is refused.
 ///
 /// # Errors
 ///
-/// As of [`present`]; and the signature is [empty](Error::Misused).
+/// The same as of [`present`], and [`Error::Misused`] if the signature is empty.
 pub fn present_with(
     order: impl AsRef<[u8]>,
     token: impl AsRef<[u8]>,

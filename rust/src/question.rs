@@ -1,17 +1,18 @@
-//! What a caller that checks signatures is asked.
+//! The questions to a caller that checks signatures.
 
 use crate::call::{answer, room_for, Answer, MISSING};
 use crate::error::Error;
 use crate::ffi;
 
-/// What a caller says of a signature.
+/// Your verdict on a signature.
 #[derive(Clone, Copy, Debug, PartialEq, Eq)]
 pub enum Verdict {
-    /// There is no key for it.
+    /// You have no key for it.
     UnknownKey,
-    /// It is not a signature of the text under the key.
+    /// It is not a good signature of the text under the key.
     Bad,
-    /// It is one: checked over just the text, with the algorithm of the question, under a key that is trusted for it.
+    /// It is good: you checked it over exactly the text, with the algorithm of the question, under a key that is
+    /// trusted for it.
     Good,
 }
 
@@ -36,8 +37,8 @@ pub enum Whose {
 
 /// A signature that the caller is to check.
 ///
-/// All of it but the text's place in the token comes from whoever made the token. Select the key by the algorithm and by
-/// the type of the key: never check an HMAC under the bytes of a public key (RFC 8725 section 3.1).
+/// All of it but the text's place in the token comes from whoever made the token. Select the key by the algorithm and
+/// by the type of the key: never check an HMAC under the bytes of a public key (RFC 8725 section 3.1).
 #[derive(Clone, Debug)]
 pub struct Question {
     line: Vec<u8>,
@@ -92,8 +93,8 @@ impl Question {
         self.kid.as_deref()
     }
 
-    /// The string at a JSON Pointer (RFC 6901) into the question: `/payload/cnf/jwk/x` is the member `x` of the holder's
-    /// key. Nothing, if there is no string.
+    /// The string at a JSON Pointer (RFC 6901) into the question: `/payload/cnf/jwk/x` is the member `x` of the
+    /// holder's key. Nothing, if there is no string.
     ///
     /// # Errors
     ///

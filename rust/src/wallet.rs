@@ -1,4 +1,4 @@
-//! Picking the token that answers a query.
+//! Picking the token that satisfies a query.
 
 use crate::call::{answer, room_for};
 use crate::error::Error;
@@ -9,17 +9,18 @@ pub const TOKENS_MAX: usize = 64;
 
 const COUNT: &str = "there are no tokens, or more than 64";
 
-/// A token that answers a query.
+/// A token that satisfies a query.
 #[derive(Clone, Debug, PartialEq, Eq)]
 pub struct Picked {
     /// Which token it is, counted from 0.
     pub index: usize,
-    /// The token with just the disclosures that answer. It has no key binding token: [`present`](crate::present) it.
+    /// The token with only the disclosures that the query needs. It has no key binding token:
+    /// [`present`](crate::present) it.
     pub token: String,
 }
 
-/// Of 1 to [`TOKENS_MAX`] tokens the one that answers a query (`docs/FILES.md`) with the fewest disclosures. The keys are
-/// symmetric.
+/// The token, of 1 to [`TOKENS_MAX`], that satisfies a query (`docs/FILES.md`) with the fewest disclosures. The keys
+/// are symmetric.
 ///
 /// # Errors
 ///

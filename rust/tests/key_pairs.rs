@@ -83,6 +83,14 @@ fn rfc_verdict(policy: sdjwt::ForNonce<'_>, token: &str, issuer: &EcKey<Public>)
     })
 }
 
+fn each_letter_is_refused(token: &str, verdict: impl Fn(&str) -> Result<sdjwt::Claims, Error>) {
+    for at in 0..token.len() {
+        let letter = if &token[at..=at] == "A" { "B" } else { "A" };
+        let error = verdict(&format!("{}{letter}{}", &token[..at], &token[at + 1..])).unwrap_err();
+        assert!(error.refused().is_some(), "{at}: {error}");
+    }
+}
+
 #[test]
 fn the_presentation_of_the_rfc_and_each_letter_changed() {
     let (token, issuer, policy) = (rfc("presented.txt"), rfc_issuer(), rfc_policy("another"));
@@ -90,12 +98,16 @@ fn the_presentation_of_the_rfc_and_each_letter_changed() {
     let claims: serde_json::Value = rfc_verdict(policy, &token, &issuer).unwrap().as_str().parse().unwrap();
     let due: serde_json::Value = rfc("claims.json").parse().unwrap();
     assert_eq!(claims, due);
-    for at in 0..token.len() {
-        let letter = if &token[at..=at] == "A" { "B" } else { "A" };
-        let changed = format!("{}{letter}{}", &token[..at], &token[at + 1..]);
-        let error = rfc_verdict(policy, &changed, &issuer).unwrap_err();
-        assert!(error.refused().is_some(), "{at}: {error}");
-    }
+    each_letter_is_refused(&token, |changed| rfc_verdict(policy, changed, &issuer));
+}
+
+#[test]
+fn the_issued_token_of_the_rfc_and_each_letter_changed() {
+    let (token, issuer) = (rfc("issued.txt"), rfc_issuer());
+    let policy = Policy::new(r#"{"keys": {"keys": []}, "algs": ["ES256"]}"#).unwrap();
+    let verdict = |token: &str| policy.verify_with(token, MOMENT, &[], |question| es256(&issuer, question));
+    assert!(verdict(&token).unwrap().as_str().contains(r#""iss":"https://issuer.example.com""#));
+    each_letter_is_refused(&token, verdict);
 }
 
 #[test]

@@ -18,7 +18,8 @@ fn ticket(seat: &str) -> String {
 
 fn shown(seat: &str, nonce: &str) -> String {
     let wish = format!(
-        r#"{{"keys": {}, "want": ["/seat"], "binding": {{"key": "{KEY}", "kid": "a", "aud": "door", "nonce": "{nonce}"}}}}"#,
+        r#"{{"keys": {}, "want": ["/seat"],
+            "binding": {{"key": "{KEY}", "kid": "a", "aud": "door", "nonce": "{nonce}"}}}}"#,
         key_set()
     );
     sdjwt::present(wish, ticket(seat), 1000).unwrap()
@@ -91,9 +92,12 @@ fn bytes_that_are_no_token() {
 fn errors_say_what_is_wrong() {
     let error = Policy::new("{").unwrap_err();
     assert!(error.to_string().starts_with("unreadable 1 notJson: "), "{error}");
-    let Error::Unreadable(unreadable) = &error else { panic!("{error}") };
-    assert_eq!((unreadable.input(), unreadable.reason()), (1, "notJson"));
-    let error = sdjwt::present(format!(r#"{{"keys": {}, "want": ["/a b"]}}"#, key_set()), ticket("B12"), 0).unwrap_err();
+    match &error {
+        Error::Unreadable(unreadable) => assert_eq!((unreadable.input(), unreadable.reason()), (1, "notJson")),
+        other => panic!("{other}"),
+    }
+    let wish = format!(r#"{{"keys": {}, "want": ["/a b"]}}"#, key_set());
+    let error = sdjwt::present(wish, ticket("B12"), 0).unwrap_err();
     let refused = error.refused().unwrap();
     assert_eq!((refused.number(), refused.name(), refused.place()), (72, "wantedNotThere", Some("0")));
     assert!(std::error::Error::source(&error).is_some());

@@ -79,14 +79,16 @@ fn all_vectors() {
     let (mut ran, mut left_out) = (0, 0);
     for entry in fs::read_dir(folder).unwrap() {
         let path = entry.unwrap().path();
-        if path.extension().is_none_or(|extension| extension != "json") {
+        if path.extension().map_or(true, |extension| extension != "json") {
             continue;
         }
         let vectors: Vec<Value> = serde_json::from_slice(&fs::read(&path).unwrap()).unwrap();
         for vector in &vectors {
             let given = vector["files"].as_object().unwrap();
             let mut files: Files = given.iter().map(|(name, file)| (name.clone(), text(file).into_bytes())).collect();
-            let Some(left) = left_by(vector, &mut files) else {
+            let left = if let Some(left) = left_by(vector, &mut files) {
+                left
+            } else {
                 left_out += 1;
                 continue;
             };
