@@ -61,7 +61,8 @@ def plain(size=1_000_000):
 
 
 SHAPES = {"small": small, "flat 1,000": lambda: flat(1000), "flat 4,096": lambda: flat(4096), "nested 90": nested,
-          "lists 1,000": lists, "long 64": long, "plain 1 MB": plain}
+          "lists 1,000": lists, "long 64": long, "plain 1 MB": plain, "flat 32,768": lambda: flat(32_768),
+          "plain 6 MB": lambda: plain(6_000_000)}
 COMMANDS = ("issue", "present", "verify", "show", "split", "convert")
 
 
