@@ -3,7 +3,8 @@
 #
 #   sh bench/build.sh          the last line is the folder of the programs: plain, soft/plain, floor and runner
 #
-# soft/plain hashes without the SHA instructions of the processor. The folder is $PLAIN_OUT, or bench/out. It needs cargo and
+# soft/plain hashes without the SHA instructions of the processor. The folder is $PLAIN_OUT, or bench/out. It needs
+# cargo, a C compiler and
 #     apt-get install librust-base64-dev librust-hmac-dev librust-indexmap-dev librust-rand-chacha-dev \
 #         librust-serde-json-dev librust-sha2-dev
 # DEBIAN_CRATES is where Debian puts these, if not /usr/share/cargo/registry. Status 3 says that a tool is missing.

@@ -62,7 +62,7 @@ def main():
         print(f"guard.py: wrote {len(counts)} counts")
         return 0
     if not FILE.exists():
-        print("guard.py: there is no bench/guard.json yet: run this with --write over a proved program", file=sys.stderr)
+        print("guard.py: there is no bench/guard.json: write it by --write over a proved program", file=sys.stderr)
         return 1
     lines, holds = judged(json.loads(FILE.read_text(encoding="utf-8")), counts)
     print("\n".join(lines))

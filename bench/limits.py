@@ -4,8 +4,8 @@
     python3 bench/limits.py SDJWT TOOLS [WORD]
 
 tests/worst_json.py makes the tokens of the first table: each fills a token file with what nobody signs, such as deep
-arrays in `header`. tests/limits.py makes the files of the second: each has a list at its limit. With WORD only the lines
-with this word are measured.
+arrays in `header`. tests/limits.py makes the files of the second: each has a list at its limit. With WORD only the
+lines with this word are measured.
 """
 import re
 import subprocess

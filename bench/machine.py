@@ -74,7 +74,7 @@ def in_turn(runner, commands, rounds, source=None):
 
 
 def median_quotient(ours, theirs):
-    """The median of the quotients of neighbouring runs, which slow and fast spells of a machine disturb little."""
+    """The median of the quotients of neighboring runs, which slow and fast spells of a machine disturb little."""
     return statistics.median(own[0] / max(other[0], 1) for own, other in zip(ours, theirs))
 
 
@@ -84,7 +84,8 @@ def instructions(program, words, source=None, profile=None):
     with tempfile.TemporaryDirectory() as made, open(source or os.devnull, "rb") as standard_input:
         out = profile or os.path.join(made, "profile")
         command = [valgrind, "--tool=callgrind", f"--callgrind-out-file={out}", program, *words]
-        run = subprocess.run(command, stdin=standard_input, stdout=subprocess.DEVNULL, stderr=subprocess.PIPE, text=True)
+        run = subprocess.run(command, stdin=standard_input, stdout=subprocess.DEVNULL, stderr=subprocess.PIPE,
+                             text=True)
     found = re.search(r"Collected : (\d+)", run.stderr)
     if not found:
         raise Skipped(f"valgrind counts nothing: {run.stderr.strip().splitlines()[-1]}")
@@ -111,7 +112,7 @@ def commit():
     """The commit that is checked out, and whether something was changed since."""
     def git(*words):
         return subprocess.run(["git", "-C", str(TOP), *words], stdout=subprocess.PIPE, text=True).stdout.strip()
-    changed = [line for line in git("status", "--porcelain", "--", "crates", "c", "bench", "python").split("\n") if line]
+    changed = git("status", "--porcelain", "--", "crates", "c", "bench", "python")
     return git("rev-parse", "--short=8", "HEAD") + (", with changes" if changed else "")
 
 

@@ -3,9 +3,9 @@
 
     python3 bench/programs.py SDJWT [--only WORD] [--rounds 15] [--instructions] [--growth] [--plain PROGRAM]
 
-SDJWT is a built sdjwt. Without --instructions both run in turn; a time is the median of the quotients of neighbouring
-runs. With it callgrind counts, which does not depend on what else the machine does. If an answer differs the status is 1,
-and nothing is measured. PROGRAM stands in the place of the plain program that bench/build.sh builds.
+SDJWT is a built sdjwt. Without --instructions both run in turn; a quotient of times is the median of the quotients of
+neighboring runs. With it callgrind counts, which does not depend on what else the machine does. If an answer differs
+the status is 1, and nothing is measured. PROGRAM replaces the plain program that bench/build.sh builds.
 """
 import argparse
 import math
@@ -51,7 +51,7 @@ def compared(ours, plain, folder, only=""):
     failed = [name for name, words in runs if answer(ours, words)[0] != 0]
     if failed:
         sys.exit("programs.py: a workload is refused: " + "; ".join(failed))
-    print(f"programs.py: the answers to {len(runs)} workloads and {len(bad)} refused runs are the same", file=sys.stderr)
+    print(f"programs.py: both answer {len(runs)} workloads and {len(bad)} refused runs the same", file=sys.stderr)
     return runs
 
 
@@ -92,13 +92,14 @@ def exponent(points):
 
 def instruction_table(rows):
     cells = [(name, f"{own:.2f}", f"{other:.2f}", f"{quotient:.3f}") for name, own, other, quotient in rows]
-    return table(("Workload", "sdjwt, million", "plain Rust, million", "Quotient"), cells)
+    return table(("Workload", "`sdjwt`, million", "plain Rust, million", "Quotient"), cells)
 
 
 def time_table(rows):
     cells = [(name, f"{middle:.2f}", *(f"{each:.2f}" for each in quotients), f"{own:,}; {other:,}")
              for name, middle, quotients, (own, other) in rows]
-    heads = ("Workload", "sdjwt, ms", "Time, of plain Rust", "of plain Rust without SHA instructions", "Peak memory, kB")
+    heads = ("Workload", "`sdjwt`, ms", "Quotient of times", "the same, plain Rust without SHA instructions",
+             "Peak memory of `sdjwt`; of plain Rust, kB")
     return table(heads, cells)
 
 

@@ -71,14 +71,14 @@ def wrapped(text, width=120):
     return "\n".join(textwrap.wrap(text, width, break_long_words=False, break_on_hyphens=False))
 
 
-BESIDE = ("`sdjwt` next to the program of [bench](../bench/README.md), which does the same in plain Rust, without proofs. "
-          "A time is the time of the processor: for `sdjwt` the median of its runs, and for a quotient the median of the "
-          "quotients of neighboring runs. `flat` has that many disclosures side by side, `nested` one inside the other, "
-          "`lists` hides elements of arrays, `long` has disclosures of 10 kB, and `plain` hides nothing.")
+BESIDE = ("`sdjwt` next to the program `bench/plain`, which does the same in plain Rust, without proofs. Times are "
+          "those of the processor: the median of the runs of `sdjwt`, and the median of the quotients of neighboring "
+          "runs. `flat` has that many disclosures side by side, `nested` one inside the other, `lists` hides elements "
+          "of arrays, `long` has disclosures of 10 kB, and `plain` hides nothing.")
 COUNTED = ("Instructions, without those of the start. The processor of valgrind has no SHA instructions, so neither "
            "program uses them here:")
-CALLS = ("A token with ten disclosures, all of which are shown, by `python3 python/speed.py`. The other Python libraries "
-         "check only the signature of the same JWT, and PyJWT also `exp`; they look at no disclosure.")
+CALLS = ("A token with ten disclosures, all of which are shown, by `python3 python/speed.py`. The other Python "
+         "libraries check only the signature of the same JWT, and PyJWT also `exp`; they look at no disclosure.")
 
 
 def of_programs(report):
@@ -151,15 +151,15 @@ def of_feeds(report):
     parts = [table(("How", "Tokens a second", "From, to"), rows)]
     cores = {re.search(r"\d+", name).group(): {"tokens": middle} for name, (middle, *_) in found.items()
              if "processes" in name}
-    parts.append(report.draw("cores", pictures.bars("Tokens a second by processes of cores.sh", "tokens a second", cores),
-                             "Tokens a second with 1, 2 and 4 processes"))
+    drawn = pictures.bars("Tokens a second by processes of cores.sh", "tokens a second", cores)
+    parts.append(report.draw("cores", drawn, "Tokens a second with 1, 2 and 4 processes"))
     runner = report.plain("runner")
     peaks = [scale.feed_memory(report.tools, runner, count) for count in (1000, 2000 if report.quick else 1_000_000)]
     parts.append(wrapped(f"**Memory does not grow with the number of tokens**: the peak is {peaks[0]:,} kB for 1,000 "
                          f"tokens, and {peaks[1]:,} kB for {'2,000' if report.quick else 'a million'}."))
     hard, soft = feed_beside_plain(report, tokens)
     parts.append(wrapped(f"Per token, `sdjwt_tools feed` takes {hard:.2f} times the processor time of the feed of "
-                         f"[`bench/plain`](../bench/README.md), and {soft:.2f} times that of the same without SHA "
+                         f"`bench/plain`, and {soft:.2f} times that of the same without SHA "
                          "instructions."))
     return "\n\n".join(parts)
 
@@ -168,7 +168,8 @@ def of_dask(report):
     found = scale.dask(report.tools, 2000 if report.quick else 1_000_000, (1, 2) if report.quick else scale.WORKERS)
     rows = [(workers, f"{own['rate']:,.0f}", f"{own['judging']:.2f}", f"{own['around']:.2f}", f"{own['cluster']:.2f}")
             for workers, own in found.items()]
-    heads = ("Workers of Dask", "Tokens a second", "Judging, s", "Starting `dask_feed.py`, s", "Starting the cluster, s")
+    heads = ("Workers of Dask", "Tokens a second", "Judging, s", "Starting `dask_feed.py`, s",
+             "Starting the cluster, s")
     return table(heads, rows)
 
 

@@ -72,8 +72,8 @@ class Cluster:
         begun = time.monotonic()
         told = Path(folder) / "scheduler"
         quiet = {"stdout": subprocess.DEVNULL, "stderr": subprocess.DEVNULL, "cwd": folder}
-        self.start([python, "-m", "distributed.cli.dask_scheduler", "--host", "127.0.0.1", "--port", "0", "--no-dashboard",
-                    "--scheduler-file", str(told)], quiet)
+        self.start([python, "-m", "distributed.cli.dask_scheduler", "--host", "127.0.0.1", "--port", "0",
+                    "--no-dashboard", "--scheduler-file", str(told)], quiet)
         self.address = wait_for(told, self.started[0])
         for _ in range(workers):
             self.start([python, "-m", "distributed.cli.dask_worker", self.address, "--nthreads", "1", "--no-nanny",
@@ -108,9 +108,9 @@ def dask(tools, tokens=1_000_000, counts=WORKERS):
         for workers in counts:
             with Cluster(python, made, workers) as cluster:
                 begun = time.monotonic()
-                run = subprocess.run([python, str(SCALE / "dask_feed.py"), cluster.address, str(SCALE / "policy.json"),
-                                      str(path), "--program", os.path.abspath(tools)], check=True, stdout=subprocess.PIPE,
-                                     text=True)
+                words = [python, str(SCALE / "dask_feed.py"), cluster.address, str(SCALE / "policy.json"), str(path),
+                         "--program", os.path.abspath(tools)]
+                run = subprocess.run(words, check=True, stdout=subprocess.PIPE, text=True)
                 whole = time.monotonic() - begun
             judging = float(re.search(r"parts, ([\d.]+) s", run.stdout).group(1))
             results[workers] = {"rate": tokens / judging, "judging": judging, "around": whole - judging,

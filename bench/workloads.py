@@ -47,8 +47,9 @@ def lists(count=1000):
 def long(count=64):
     """Few disclosures, each of some thousand bytes."""
     chosen = random.Random(1)
+    letters = "abcdefghijklmnopqrstuvwxyz "
     payload = {"iss": "office", "exp": FAR}
-    payload.update((f"scan_{i:02}", "".join(chosen.choices("abcdefghijklmnopqrstuvwxyz ", k=8000))) for i in range(count))
+    payload.update((f"scan_{i:02}", "".join(chosen.choices(letters, k=8000))) for i in range(count))
     return payload, [f"/scan_{i:02}" for i in range(count)]
 
 
@@ -140,6 +141,7 @@ def broken(token):
     yield "flattened", json.dumps(flat_form)
     yield "flattened, 1.5", json.dumps({**flat_form, "x": 1.5})
     yield "flattened, critical", json.dumps({**flat_form, "header": {"disclosures": middle, "crit": []}})
-    general = {"payload": payload, "signatures": [{"protected": header, "signature": signature}, {"header": {"kb_jwt": 1}}]}
+    entries = [{"protected": header, "signature": signature}, {"header": {"kb_jwt": 1}}]
+    general = {"payload": payload, "signatures": entries}
     yield "general, a stray", json.dumps(general)
     yield "not JSON", "{"

@@ -47,7 +47,9 @@ pub fn read_header(text: &str, outer: &[Member]) -> Option<(Header, bool)> {
 }
 
 /// Conditions 5 to 10.
-pub fn check_signed(token: &Token, keys: &KeySet, allows: &dyn Fn(&str) -> bool, typ: Option<&str>) -> Result<(), Fault> {
+pub fn check_signed(
+    token: &Token, keys: &KeySet, allows: &dyn Fn(&str) -> bool, typ: Option<&str>,
+) -> Result<(), Fault> {
     let jwt = &token.signed;
     let (header, is_critical) = read_header(&jwt.header, &token.outer).ok_or(Fault::new(5))?;
     if is_critical {
@@ -355,8 +357,8 @@ impl<'b> Builder<'b> {
             start + behind.expect("a shown member has a site")
         };
         for group in members.chunk_by(|a, b| a.name == b.name).filter(|group| group.len() > 1) {
-            let mut places: Vec<usize> =
-                group.iter().filter(|member| member.slot.mark != NO_MARK).map(|member| site_of(member.slot.mark)).collect();
+            let marks = group.iter().map(|member| member.slot.mark).filter(|mark| *mark != NO_MARK);
+            let mut places: Vec<usize> = marks.map(site_of).collect();
             places.sort_unstable();
             let first = if places.len() < group.len() { places[0] } else { places[1] };
             self.clash = Some(self.clash.map_or(first, |clash| clash.min(first)));
