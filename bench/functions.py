@@ -20,7 +20,7 @@ KINDS = (
     ("hash", r"sha2|sha256|sha512|hmac|compress|Sha256|Sha512|digest::core_api"),
     ("base64", r"base64|b64|encode_config|decode_config|decode_helper|word_len"),
     ("JSON", r"serde_json|json|claim_tree|write_text|write_members|Deserializer|Reader|visit_(seq|map)|utf8|itoa"),
-    ("index", r"indexmap|hashbrown|digest_index|siphash|SipHasher|hash_one"),
+    ("index", r"indexmap|hashbrown|digest_index|[Ss]ip|hash_one"),
     ("memory", r"malloc|free|realloc|calloc|memcpy|memmove|memset|_int_|alloc|drop_in_place|unlink_chunk|memcmp"),
 )
 
@@ -31,8 +31,8 @@ def own_costs(program, words, source=None):
     with tempfile.TemporaryDirectory() as made:
         profile = f"{made}/profile"
         instructions(program, words, source, profile)
-        text = subprocess.run(["callgrind_annotate", "--threshold=100", profile], check=True, stdout=subprocess.PIPE,
-                              text=True).stdout
+        words = ["callgrind_annotate", "--auto=no", "--threshold=100", profile]
+        text = subprocess.run(words, check=True, stdout=subprocess.PIPE, text=True).stdout
     costs = Counter()
     for line in text.split("\n"):
         found = re.match(r"\s*([\d,]+) \([ \d.]+%\)\s+(\S+?):(.*?)(?: \[[^\]]*\])?$", line)

@@ -79,6 +79,8 @@ COUNTED = ("Instructions, without those of the start. The processor of valgrind 
            "program uses them here:")
 CALLS = ("A token with ten disclosures, all of which are shown, by `python3 python/speed.py`. The other Python "
          "libraries check only the signature of the same JWT, and PyJWT also `exp`; they look at no disclosure.")
+DASK = ("The rate is that of judging alone. The workers of Dask read their parts of the file by themselves, while "
+        "`cores.sh` passes all tokens through one pipe, and its rate includes the start of GNU parallel.")
 
 
 def of_programs(report):
@@ -170,7 +172,7 @@ def of_dask(report):
             for workers, own in found.items()]
     heads = ("Workers of Dask", "Tokens a second", "Judging, s", "Starting `dask_feed.py`, s",
              "Starting the cluster, s")
-    return table(heads, rows)
+    return table(heads, rows) + "\n\n" + wrapped(DASK)
 
 
 def of_calls(report):

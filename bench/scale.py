@@ -149,24 +149,28 @@ def c_calls(library, seconds=2.0, counts=WORKERS):
 
 
 def python_calls(library, seconds=2.0):
-    """What python/speed.py measures, under the names that it prints; and what it skips."""
+    """What python/speed.py measures, under the names that it prints; and what it skips.
+
+    If a library is missing, Debian's Python is asked for it too; what only that one has is marked by its version.
+    """
     library = os.path.abspath(library)
     if not os.path.exists(library):
         raise Skipped(f"there is no {library}: sh c/build.sh makes it")
-    figures, skipped = {}, set()
+    figures, skipped = {}, {"all"}
     surroundings = {**os.environ, "PYTHONPATH": str(TOP / "python/src"), "SDJWT_LIBRARY": library}
     for python in dict.fromkeys([sys.executable, "/usr/bin/python3"]):
-        if not Path(python).exists():
+        if not skipped or not Path(python).exists():
             continue
         with tempfile.TemporaryDirectory() as made:
             words = [python, str(TOP / "python/speed.py"), "--seconds", str(seconds), "--json", f"{made}/figures"]
             run = subprocess.run(words, env=surroundings, check=True, stdout=subprocess.PIPE, text=True)
             found = json.loads(Path(f"{made}/figures").read_text(encoding="utf-8"))
-        skipped |= set(re.findall(r"^skipped: (\w+)", run.stdout, re.M))
-        for name, figure in found.items():
-            figures.setdefault(name, figure)
-    left = [name for name in skipped if not any(name in known for known in figures)]
-    return figures, left
+        skipped = set(re.findall(r"^skipped: (\w+)", run.stdout, re.M))
+        version = subprocess.run([python, "-V"], check=True, stdout=subprocess.PIPE, text=True).stdout.strip()
+        added = f" ({version})" if figures else ""
+        figures.update((name + added, figure) for name, figure in found.items() if name not in figures)
+        skipped = {name for name in skipped if not any(name in known for known in figures)}
+    return figures, sorted(skipped - {"all"})
 
 
 def main():

@@ -2,7 +2,7 @@
 use crate::code::{decode, Alg, Hash};
 use crate::end::{Fault, Stop};
 use crate::files::{Ask, Key, KeySet, Order, Policy};
-use crate::form::{read_token, trimmed, FILE_MAX};
+use crate::form::{read_token, FILE_MAX};
 use crate::issue::issue;
 use crate::json::{read, write, write_members, write_text, Member, Node, Slot};
 use crate::open::{read_header, Bytes, Opened};
@@ -178,7 +178,7 @@ pub fn feed(policy: &Policy, most: usize, now: u64) -> Result<(), Stop> {
         }
         verdict.clear();
         verdict.extend_from_slice(b"accepted ");
-        if let Err(fault) = verify(trimmed(&text), policy, now, &mut verdict) {
+        if let Err(fault) = verify(text.strip_suffix(b"\n").unwrap_or(&text), policy, now, &mut verdict) {
             verdict.clear();
             verdict.extend_from_slice(fault.line().as_bytes());
         }
