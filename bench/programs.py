@@ -56,11 +56,12 @@ def compared(ours, plain, folder, only=""):
 
 
 def count(ours, plain, runs):
-    """For each workload the instructions of both, in millions, without those of the start, and the quotient."""
-    starts = {program: instructions(program, []) for program in (ours, plain)}
+    """For each workload the instructions of both, in millions, without those of the start, and the quotients without
+    and with it."""
+    first, second = (instructions(program, []) for program in (ours, plain))
     for name, words in runs:
-        own, other = (instructions(program, words) - starts[program] for program in (ours, plain))
-        yield name, own / 1e6, other / 1e6, own / other
+        own, other = (instructions(program, words) for program in (ours, plain))
+        yield name, (own - first) / 1e6, (other - second) / 1e6, (own - first) / (other - second), own / other
 
 
 def times(ours, plains, runs, runner, rounds):
@@ -91,8 +92,9 @@ def exponent(points):
 
 
 def instruction_table(rows):
-    cells = [(name, f"{own:.2f}", f"{other:.2f}", f"{quotient:.3f}") for name, own, other, quotient in rows]
-    return table(("Workload", "`sdjwt`, million", "plain Rust, million", "Quotient"), cells)
+    cells = [(name, f"{own:.2f}", f"{other:.2f}", f"{quotient:.3f}", f"{whole:.3f}")
+             for name, own, other, quotient, whole in rows]
+    return table(("Workload", "`sdjwt`, million", "plain Rust, million", "Quotient", "with the start"), cells)
 
 
 def time_table(rows):
