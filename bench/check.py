@@ -12,10 +12,12 @@ import subprocess
 import sys
 import tempfile
 import types
+import unittest.mock
 from pathlib import Path
 from xml.dom import minidom
 
 import guard
+import limits
 import pictures
 import programs
 import report
@@ -85,13 +87,15 @@ def check_sections(folder):
 
 def check_limits():
     line = f"{'header: deep lists':34}" + "".join(f"{megabytes:>9,.0f} {2.5:>5.2f}s" for megabytes in (1415, 2, 3, 804))
-    import limits
-    import unittest.mock
     said = subprocess.CompletedProcess([], 0, stdout=f"heads\n{line}  refused 10 badSignature\n")
     with unittest.mock.patch("subprocess.run", return_value=said):
         found = limits.worst("program")
     assert found == {"header: deep lists": [(1415, 2.5), (2, 2.5), (3, 2.5), (804, 2.5)]}, found
-    print("check.py: the lines of tests/worst_json.py are read")
+    rows = "| Command | What is at its limit |\n|---|---|\n| `issue` | `hide` |"
+    said = subprocess.CompletedProcess([], 0, stdout=f"{rows}\neach run took at most 2 seconds\n")
+    with unittest.mock.patch("subprocess.run", return_value=said):
+        assert limits.files("sdjwt", "tools") == rows
+    print("check.py: the lines of tests/worst_json.py and tests/limits.py are read")
 
 
 def main():

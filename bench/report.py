@@ -197,7 +197,7 @@ def of_worst(report):
 
 
 def of_limits(report):
-    return limits.files(report.sdjwt, report.tools, *(["skew"] if report.quick else []))
+    return limits.files(report.sdjwt, report.tools, *(["algs"] if report.quick else []))
 
 
 SECTIONS = {"heading": of_heading, "programs": of_programs, "growth": of_growth, "shares": of_shares, "feeds": of_feeds,
