@@ -1,11 +1,12 @@
 #!/usr/bin/env python3
 """How many tokens a second: the package, the program, and the bare signature check of other libraries, side by side.
 
-    python3 speed.py [--program sdjwt] [--seconds 2]
+    python3 speed.py [--program sdjwt] [--seconds 2] [--json FILE]
 
-The token has ten disclosures, of which all are shown, and the policy has two keys. Each figure is the best of five
-rounds of so many seconds. Beside the calls a second stands the time of the processor that a call takes on one thread,
-which other work on the machine disturbs less.
+The token has ten disclosures, of which all are shown, and the policy has two keys. It is signed with HS256, and then
+with ES256. Each figure is the best of five rounds of so many seconds, on 1, 2 and 4 threads. Beside the calls a second
+stands the time of the processor that a call takes on one thread, which other work on the machine disturbs less. With
+--json the figures are written to a file too; bench/report.py reads it.
 """
 import argparse
 import base64
@@ -69,30 +70,51 @@ def time_of(call, rounds=9, calls=1000):
     return best * 1e6
 
 
-def tell(name, call, seconds):
-    print(f"{name}: {rate(call, seconds):,.0f} a second, {time_of(call):.0f} us of the processor")
+THREADS = (1, 2, 4)
+FIGURES = {}
 
 
-def peers(jwt):
-    """The bare check of the signature by others, where they are installed: no disclosure is looked at."""
-    try:
-        from joserfc import jwk, jws
-        key = jwk.OctKey.import_key(KEY)
-        yield "joserfc, signature alone", lambda: jws.deserialize_compact(jwt, key)
-    except ImportError:
-        print("skipped: joserfc")
-    try:
-        from jwcrypto import jwk as keys
-        from jwcrypto import jws as tokens
-        shared = keys.JWK(kty="oct", k=TEXT)
+def tell(name, call, seconds, on=THREADS):
+    rates = {str(threads): rate(call, seconds, threads) for threads in on}
+    FIGURES[name] = {"us": time_of(call), **rates}
+    told = ", ".join(f"{each:,.0f} a second on {threads}" for threads, each in rates.items())
+    print(f"{name}: {told} threads, {FIGURES[name]['us']:.0f} us of the processor")
 
-        def check():
-            token = tokens.JWS()
-            token.deserialize(jwt, shared)
 
-        yield "jwcrypto, signature alone", check
-    except ImportError:
-        print("skipped: jwcrypto")
+def of_joserfc(jwt, public):
+    from joserfc import jwk, jws
+    key = jwk.ECKey.import_key(public) if public else jwk.OctKey.import_key(KEY)
+    return "joserfc, signature alone", lambda: jws.deserialize_compact(jwt, key)
+
+
+def of_jwcrypto(jwt, public):
+    from jwcrypto import jwk as keys
+    from jwcrypto import jws as tokens
+    key = keys.JWK(**(public or {"kty": "oct", "k": TEXT}))
+
+    def check():
+        token = tokens.JWS()
+        token.deserialize(jwt, key)
+
+    return "jwcrypto, signature alone", check
+
+
+def of_pyjwt(jwt, public):
+    import jwt as tokens
+    from jwt.algorithms import ECAlgorithm
+    key, alg = (ECAlgorithm.from_jwk(json.dumps(public)), "ES256") if public else (KEY, "HS256")
+    return "PyJWT, signature, exp and payload", lambda: tokens.decode(jwt, key, algorithms=[alg])
+
+
+def tell_peers(jwt, alg, seconds, public=None):
+    """The check of the signature by others, where they are installed: no disclosure is looked at."""
+    for name, peer in (("joserfc", of_joserfc), ("jwcrypto", of_jwcrypto), ("PyJWT", of_pyjwt)):
+        try:
+            who, check = peer(jwt, public)
+        except ImportError:
+            print(f"skipped: {name} is not installed")
+            continue
+        tell(f"{alg}: {who}", check, seconds)
 
 
 class Pair:
@@ -119,7 +141,8 @@ class Public:
         jwt, behind = shown.split("~", 1)
         text = f"{encoded(b'{%s}' % HEADER)}.{jwt.split('.')[1]}"
         signature = pair.sign(text.encode())
-        self.token = f"{text}.{encoded(signature)}~{behind}".encode()
+        self.jwt, self.jwk = f"{text}.{encoded(signature)}", jwk
+        self.token = f"{self.jwt}~{behind}".encode()
         self.policy = sdjwt.Policy({**POLICY, "keys": {"keys": [jwk]}, "algs": ["ES256"]})
         check = self.policy._asking._checking.issuers[0].checks["ES256"]
         self.check = lambda: check(signature, text.encode())
@@ -161,10 +184,11 @@ def tell_public(shown, seconds):
     except ImportError:
         print("skipped: cryptography")
         return
-    tell("Policy.verify of ES256", lambda: public.policy.verify(public.token), seconds)
-    tell("its signature alone, by cryptography", public.check, seconds)
-    tell("Policy.verify of ES256, but for the signature", lambda: public.unchecked.verify(public.token), seconds)
-    tell("Policy.verify of HS256 beside a public key", lambda: public.mixed.verify(shown.encode()), seconds)
+    tell("ES256: Policy.verify", lambda: public.policy.verify(public.token), seconds)
+    tell_peers(public.jwt, "ES256", seconds, public.jwk)
+    tell("ES256: signature alone, by cryptography", public.check, seconds)
+    tell("ES256: Policy.verify, but for the signature", lambda: public.unchecked.verify(public.token), seconds)
+    tell("HS256: Policy.verify beside a public key", lambda: public.mixed.verify(shown.encode()), seconds)
     tell_bound()
 
 
@@ -172,31 +196,37 @@ def main():
     parser = argparse.ArgumentParser(description=__doc__, formatter_class=argparse.RawDescriptionHelpFormatter)
     parser.add_argument("--program")
     parser.add_argument("--seconds", type=float, default=2)
+    parser.add_argument("--json")
     words = parser.parse_args()
     token = sdjwt.issue(ORDER, seed=bytes(32))
     shown = sdjwt.present({"keys": POLICY["keys"], "want": ORDER["hide"]}, token).encode()
     text = json.dumps(POLICY).encode()
     policy = sdjwt.Policy(POLICY)
     print(f"a token of {len(shown)} bytes with 10 disclosures")
-    tell("Policy.verify", lambda: policy.verify(shown), words.seconds)
-    for threads in (2, 4):
-        print(f"Policy.verify on {threads} threads: {rate(lambda: policy.verify(shown), words.seconds, threads):,.0f} a second")
+    tell("HS256: Policy.verify", lambda: policy.verify(shown), words.seconds)
+    tell_peers(shown.decode().split("~")[0], "HS256", words.seconds)
     handle = policy._handles[0]
-    tell("the call of the library in it", lambda: handle.verify(shown, 1_800_000_000), words.seconds)
-    tell("verify, the policy read each time", lambda: sdjwt.verify(text, shown), words.seconds)
+    # a handle is for one thread at a time
+    tell("HS256: the call of the library in it", lambda: handle.verify(shown, 1_800_000_000), words.seconds, (1,))
+    tell("HS256: verify, the policy read each time", lambda: sdjwt.verify(text, shown), words.seconds)
     tell_public(shown.decode(), words.seconds)
-    for name, check in peers(shown.decode().split("~")[0]):
-        tell(name, check, words.seconds)
     if words.program:
-        with tempfile.TemporaryDirectory() as made:
-            (Path(made) / "policy").write_bytes(text)
-            (Path(made) / "token").write_bytes(shown)
-            run = [words.program, "verify", "policy", "token"]
+        tell_program(words.program, text, shown, words.seconds)
+    if words.json:
+        Path(words.json).write_text(json.dumps(FIGURES, indent=1) + "\n", encoding="utf-8")
 
-            def run_program():
-                subprocess.run(run, cwd=made, check=True, stdout=subprocess.DEVNULL)
 
-            print(f"the program, one run a token: {rate(run_program, words.seconds):,.0f} a second")
+def tell_program(program, policy, token, seconds):
+    """A run of the program for each token."""
+    with tempfile.TemporaryDirectory() as made:
+        (Path(made) / "policy").write_bytes(policy)
+        (Path(made) / "token").write_bytes(token)
+        run = [program, "verify", "policy", "token"]
+
+        def run_program():
+            subprocess.run(run, cwd=made, check=True, stdout=subprocess.DEVNULL)
+
+        print(f"the program, one run a token: {rate(run_program, seconds):,.0f} a second")
 
 
 if __name__ == "__main__":
