@@ -148,7 +148,7 @@ done
 # The wheel with its extra, by a README. What the extra needs is not installed with it.
 whole=$(sed -n '1s/^sdjwt //p' "$out/PROVENANCE")
 with_keys() {
-    wheel=$(sed -n 's/^    pip install \(.*\[keys\].*\)$/\1/p' "$1" | sed "s/sdjwt-$version-/sdjwt-$whole-/")
+    wheel=$(sed -n 's/^ *pip install \(.*\[keys\].*\)$/\1/p' "$1" | sed "s/sdjwt-$version-/sdjwt-$whole-/")
     [ -n "$wheel" ] && (cd "$out" && sh -c "python3 -m pip install --no-index --no-deps --disable-pip-version-check \
         --root-user-action ignore --target '$made/keys' $wheel") && rm -r "$made/keys"
 }

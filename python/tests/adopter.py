@@ -163,6 +163,7 @@ async def by_coroutines(issuer: Issuer, door: Door, holder: ec.EllipticCurvePriv
     shown = await sdjwt.present_async(order, ticket, sign=sign, alg="ES256", check=check)
     for checked in await asyncio.gather(*(door.admit_later(shown, "4711") for _ in range(8))):
         assert checked.claims["seat"] == "C1" and checked.header["kid"] == issuer.kid
+        assert checked.disclosed == ("/seat",)
         assert checked.binding is not None and checked.binding["aud"] == DOOR
         assert checked.key == sdjwt.public_jwk(issuer.public)
     assert door.asked == [issuer.name] * 8

@@ -64,7 +64,7 @@ def test_the_names_of_types_are_there_when_the_program_runs():
                  "AsyncSignFunction", "Moment", "PrivateKey", "PublicKey"):
         assert name in sdjwt.__all__ and getattr(sdjwt, name) is not None
     assert set(typing.get_type_hints(sdjwt.Question)) == {"asks", "alg", "kid", "typ", "text", "signature", "payload"}
-    assert set(typing.get_type_hints(sdjwt.Verified)) == {"claims", "header", "binding", "key"}
+    assert set(typing.get_type_hints(sdjwt.Verified)) == {"claims", "header", "disclosed", "binding", "key"}
     assert set(typing.get_type_hints(sdjwt.SkippedKey)) == {"where", "index", "kid", "reason"}
 
 

@@ -20,6 +20,7 @@ from sdjwt._asking import (
     read_object,
     skipped_of,
 )
+from sdjwt._disclosed import places_of
 from sdjwt._given import MOST, file_bytes, moment, token_bytes
 from sdjwt._handles import Handles, filled
 from sdjwt._key_forms import as_key_set, with_key_sets
@@ -35,15 +36,18 @@ from sdjwt._types import AsyncKeysFunction, Json, Keys, KeysFunction, Moment
 class Verified:
     """What is known of a token that is accepted.
 
-    `claims` is what `verify` returns, and `header` the protected header. `binding` is the payload of the key binding token, or None
-    if the policy has no `binding`. `key` is the issuer's public key as a JWK, with its `kid` if it has one. It is None if the library
-    checked the signature itself, or if the function `check` did; of a shared key it has no secret.
+    `claims` is what `verify` returns, and `header` is the protected header. `disclosed` are the places in `claims` that
+    disclosures showed, as JSON Pointers in the order of the disclosures. `binding` is the payload of the key binding
+    token, or None if the policy has no `binding`. `key` is the issuer's public key as a JWK, with its `kid` if it has
+    one. It is None if the library checked the signature itself, or if the function `check` did; a shared key is without
+    its secret.
     """
 
     __module__ = "sdjwt"
 
     claims: dict[str, Any]
     header: dict[str, Any]
+    disclosed: tuple[str, ...]
     binding: Optional[dict[str, Any]]
     key: Optional[dict[str, Any]]
 
@@ -147,7 +151,7 @@ class Policy:
     def check(
         self, token: Json, now: Moment | None = None, *, nonce: str | None = None, audience: str | None = None, most: int = MOST,
     ) -> Verified:
-        """What is known of a token that is accepted: its claims, as `verify` returns them, and its header, key and key binding."""
+        """What is known of a token that is accepted: its claims, as `verify` returns them, its header, key and so on."""
         given = token_bytes(token, most)
         return self._verified(given, finish(self._judged(given, now, nonce, audience, most)))
 
@@ -178,7 +182,8 @@ class Policy:
         inside = shown(token)
         # without `binding` in the policy, nobody has checked the key binding token
         binding = object_in(inside["binding"].encode(), 1) if self._lender.has_binding else None
-        return Verified(claims, inside["header"], binding, None if verdict.key is None else dict(verdict.key.public))
+        key = None if verdict.key is None else dict(verdict.key.public)
+        return Verified(claims, inside["header"], places_of(inside, claims), binding, key)
 
     @property
     def skipped_keys(self) -> tuple[SkippedKey, ...]:
