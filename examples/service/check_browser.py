@@ -27,7 +27,8 @@ POOR_CONTRAST = """(() => {
   };
   const hasText = (element) => [...element.childNodes].some((node) => node.nodeType === 3 && node.data.trim());
   const isShown = (element) => element.checkVisibility() && hasText(element);
-  return [...document.querySelectorAll("body *")].filter(isShown).filter(isPoor).map((element) => element.outerHTML.slice(0, 100));
+  const poor = [...document.querySelectorAll("body *")].filter(isShown).filter(isPoor);
+  return poor.map((element) => element.outerHTML.slice(0, 100));
 })()"""
 VERDICT = "document.querySelector('#verdict .title')?.textContent"
 

@@ -12,10 +12,30 @@ from sdjwt._disclosed import places_of
 KEY = "dGhlIHRpY2tldCBvZmZpY2Uga2V5LCBub3QgeW91cnM"
 KEYS = {"keys": [{"kty": "oct", "k": KEY}]}
 POLICY = sdjwt.Policy({"keys": KEYS})
-ORDER = {"payload": {"iss": "tickets", "name": "Ada", "seats": ["A1", "A2", "A3", "A2"], "home": {"city": "Rome", "lines": ["one", "two"]},
-                     "a/b~c": 1, "": {"": True}},
-         "hide": ["/name", "/seats/0", "/seats/1", "/seats/3", "/home", "/home/city", "/home/lines/1", "/a~1b~0c", "/", "//"],
-         "decoys": [{"at": "", "count": 2}, {"at": "/seats", "count": 3}, {"at": "/home", "count": 1}], "key": KEY}
+ORDER = {
+    "payload": {
+        "iss": "tickets",
+        "name": "Ada",
+        "seats": ["A1", "A2", "A3", "A2"],
+        "home": {"city": "Rome", "lines": ["one", "two"]},
+        "a/b~c": 1,
+        "": {"": True},
+    },
+    "hide": [
+        "/name",
+        "/seats/0",
+        "/seats/1",
+        "/seats/3",
+        "/home",
+        "/home/city",
+        "/home/lines/1",
+        "/a~1b~0c",
+        "/",
+        "//",
+    ],
+    "decoys": [{"at": "", "count": 2}, {"at": "/seats", "count": 3}, {"at": "/home", "count": 1}],
+    "key": KEY,
+}
 each = pytest.mark.parametrize
 
 
@@ -41,14 +61,30 @@ def test_the_places_are_in_the_order_of_the_disclosures():
     places = POLICY.check(token).disclosed
     assert len(places) == len(disclosures)
     for place, one in zip(places, disclosures):
-        assert place.endswith("/" + one["name"].replace("~", "~0").replace("/", "~1")) if "name" in one else place[-1].isdigit()
+        assert (
+            place.endswith("/" + one["name"].replace("~", "~0").replace("/", "~1"))
+            if "name" in one
+            else place[-1].isdigit()
+        )
 
 
-@each("want, due", [
-    ((), ()), (("/name",), ("/name",)), (("/seats",), ()), (("/seats/2",), ()), (("/home/city",), ("/home", "/home/city")), (("/home",), ("/home",)),
-    # what is kept back of an array leaves no gap in the claims
-    (("/seats/3",), ("/seats/1",)), (("/seats/1", "/seats/3"), ("/seats/0", "/seats/2")), (("/seats/0",), ("/seats/0",)),
-    (("/home/lines/1",), ("/home", "/home/lines/1")), (("//", "/a~1b~0c"), ("/", "//", "/a~1b~0c"))])
+@each(
+    "want, due",
+    [
+        ((), ()),
+        (("/name",), ("/name",)),
+        (("/seats",), ()),
+        (("/seats/2",), ()),
+        (("/home/city",), ("/home", "/home/city")),
+        (("/home",), ("/home",)),
+        # what is kept back of an array leaves no gap in the claims
+        (("/seats/3",), ("/seats/1",)),
+        (("/seats/1", "/seats/3"), ("/seats/0", "/seats/2")),
+        (("/seats/0",), ("/seats/0",)),
+        (("/home/lines/1",), ("/home", "/home/lines/1")),
+        (("//", "/a~1b~0c"), ("/", "//", "/a~1b~0c")),
+    ],
+)
 def test_what_is_kept_back_is_not_disclosed(want, due):
     checked = POLICY.check(present(sdjwt.issue(ORDER), *want))
     assert sorted(checked.disclosed) == sorted(due)
@@ -102,7 +138,9 @@ def test_what_was_ordered_and_wanted_is_what_is_disclosed():
         left = [40]
         payload = {str(number): made(chance, left) for number in range(4)}
         hide = [f"/{name}{place}" for name, (_, places) in payload.items() for place in places]
-        token = sdjwt.issue({"payload": {name: value for name, (value, _) in payload.items()}, "hide": hide, "key": KEY})
+        token = sdjwt.issue(
+            {"payload": {name: value for name, (value, _) in payload.items()}, "hide": hide, "key": KEY}
+        )
         whole = POLICY.check(token)
         assert sorted(whole.disclosed) == sorted(hide)
         want = [place for place in hide if chance.random() < 0.3]
@@ -122,8 +160,15 @@ def test_claims_that_do_not_follow_are_never_told():
     token = present(sdjwt.issue(ORDER), "/home/city", "/seats/1")
     inside, claims = sdjwt.show(token), POLICY.verify(token)
     assert set(places_of(inside, claims)) == {"/home", "/home/city", "/seats/0"}
-    others = [{**claims, "more": 1}, {**claims, "iss": "another"}, {**claims, "seats": ["A2"]}, {**claims, "seats": ["A2", "A3", "A1"]},
-              {**claims, "home": {}}, {name: value for name, value in claims.items() if name != "home"}, {**claims, "home": []}]
+    others = [
+        {**claims, "more": 1},
+        {**claims, "iss": "another"},
+        {**claims, "seats": ["A2"]},
+        {**claims, "seats": ["A2", "A3", "A1"]},
+        {**claims, "home": {}},
+        {name: value for name, value in claims.items() if name != "home"},
+        {**claims, "home": []},
+    ]
     for other in others:
         with pytest.raises(AssertionError, match="do not follow"):
             places_of(inside, other)
@@ -149,6 +194,8 @@ def test_a_token_that_is_deep_and_one_that_is_wide():
         hide.append(place)
     assert sorted(POLICY.check(sdjwt.issue({"payload": value, "hide": hide, "key": KEY})).disclosed) == sorted(hide)
     names = [f"c{number}" for number in range(3000)]
-    token = sdjwt.issue({"payload": {**dict.fromkeys(names, 1), "list": names}, "hide": [f"/{name}" for name in names], "key": KEY})
+    token = sdjwt.issue(
+        {"payload": {**dict.fromkeys(names, 1), "list": names}, "hide": [f"/{name}" for name in names], "key": KEY}
+    )
     assert set(POLICY.check(token).disclosed) == {f"/{name}" for name in names}
     json.dumps(POLICY.check(token).disclosed)

@@ -50,7 +50,11 @@ class _Finder:
 
     def _members(self, place: str, claims: dict[str, Any], signed: dict[str, Any]) -> Iterator[_Step]:
         digests = signed.get("_sd")
-        opened = [self._of_digest[digest] for digest in digests if digest in self._of_digest] if isinstance(digests, list) else []
+        opened = (
+            [self._of_digest[digest] for digest in digests if digest in self._of_digest]
+            if isinstance(digests, list)
+            else []
+        )
         by_name = {one["name"]: one for one in opened}
         for name, value in claims.items():
             at = f"{place}/{step(name)}"
