@@ -492,7 +492,7 @@ def test_the_page_in_a_browser(width, scheme, browser, keys, tmp_path):
     assert back == {"light": "rgb(255, 255, 255)", "dark": "rgb(20, 23, 30)"}[scheme]
     assert browser.get("document.title") == "Inside an SD-JWT"
     assert browser.get("document.querySelectorAll('img, script').length") == 1
-    assert MARKUP in browser.get("document.body.textContent") and not browser.faults
+    assert json.dumps(MARKUP) in browser.get("document.body.textContent") and not browser.faults
 
 
 def test_a_browser_refuses_what_the_page_does_not_allow(browser, keys, tmp_path):
