@@ -42,7 +42,7 @@ def by_browser(service: Service, pictures: Path | None) -> str | None:
     try:
         page.look(1280, 1000)
         page.open(service.base + "/")
-        page.wait("document.documentElement.dataset.ready")
+        page.wait("document.documentElement?.dataset.ready")
         walks = [_walk, _wrong_hands, _typed, _markup, _expired, _fits]
         for walk in walks:
             walk(page)
@@ -109,7 +109,7 @@ def _show(page: Page) -> None:
 
 def _reload(page: Page) -> None:
     page.get("delete document.documentElement.dataset.ready, location.reload()")
-    page.wait("document.documentElement.dataset.ready")
+    page.wait("document.documentElement?.dataset.ready")
 
 
 def _walk(page: Page) -> None:
@@ -211,7 +211,7 @@ def _take(page: Page, folder: Path) -> None:
     _issue(page)
     _show(page)
     _verdict(page, "Admitted: over 18")
-    page.get("document.activeElement.blur()")
+    page.get("document.activeElement.blur(), scrollTo(0, 0)")
     page.picture(folder / "service.png", False)
     for width in (1280, 360):
         for scheme in ("light", "dark"):
