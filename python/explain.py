@@ -10,8 +10,8 @@
     sdjwt verify p.json t.txt 2>&1 | sdjwt-explain     each refusal as JSON, all other lines as they are
 
 Quotes around a line make no difference. In a pipe the status is that of the refusal, and 0 where there is none. Else it
-is 0 where there is an entry, 1 where there is none or the file could not be read, and 2 where the words are wrong. It is
-4 where the answer could not be written; a reader who wants no more of it ends it by SIGPIPE, as other programs. It
+is 0 where there is an entry, 1 where there is none or the file could not be read, and 2 where the words are wrong. It
+is 4 where the answer could not be written; a reader who wants no more of it ends it by SIGPIPE, as other programs. It
 judges nothing: what the file has in it is compared with the line, and where it has no such fault this is said.
 """
 import json
@@ -28,8 +28,8 @@ INSTALLED = HERE.parent / "share/sdjwt"
 IS_INSTALLED = INSTALLED.is_dir() and HERE.name == "bin"
 PAGE = INSTALLED / "REFUSALS.md" if IS_INSTALLED else HERE.parent / "docs/REFUSALS.md"
 CASES = HERE.parent / "examples/refusals/cases.txt"
-# An entry of the page: a heading with the lines below it, or a row of a table. Then the marks between its parts, and what
-# is dropped from them: the mark of an element of a list, and the target of a link.
+# An entry of the page: a heading with the lines below it, or a row of a table. Then the marks between its parts, and
+# what is dropped from them: the mark of an element of a list, and the target of a link.
 ENTRY = r"^### ([\w ]+?)(?: <a .*)?\n((?:(?!#).*\n)*)|^\| `([A-Za-z_ ]+)` \| ([^|]+) \| ([^|]+) \| ([^|]+) \|$"
 MARKS = r"\n- \*(?:Cause|Remedy):\* "
 DROPPED = r"^ +- |\[([^]]*)\]\([^)]*\)"
@@ -68,13 +68,16 @@ def lines_of(stream):
 
 
 def sections(page):
-    """What each entry says, each part in one line, by what it explains: `refused 10 badSignature`, `unreadable notJson` or
-    `usage`. An entry is a heading with the lines below it, or a row of the table of the reasons why a file is unreadable."""
+    """What each entry says, each part in one line, by what it explains: `refused 10 badSignature`, `unreadable notJson`
+    or `usage`. An entry is a heading with the lines below it, or a row of the table of the reasons why a file is
+    unreadable."""
     found = {}
     for heading, body, reason, *cells in re.findall(ENTRY, page, re.M):
         lines = re.sub(DROPPED, r"\1", body, flags=re.M)
         parts = [f"{cell[0].upper()}{cell[1:]}." for cell in cells] if reason else re.split(MARKS, lines)
-        found[heading or "unreadable " + reason] = {of: " ".join(part.split()) for of, part in zip(PARTS.values(), parts)}
+        found[heading or "unreadable " + reason] = {
+            of: " ".join(part.split()) for of, part in zip(PARTS.values(), parts)
+        }
     return found
 
 

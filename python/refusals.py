@@ -1,6 +1,6 @@
 #!/usr/bin/env python3
-"""Writes what the packages for Python, JavaScript and Rust say of refusals from docs/REFUSALS.md, or checks that it is what
-that page says, by --check."""
+"""Writes what the packages for Python, JavaScript and Rust say of refusals from docs/REFUSALS.md, or checks that it is
+what that page says, by --check."""
 import json
 import sys
 from pathlib import Path

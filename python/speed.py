@@ -126,7 +126,11 @@ class Pair:
         from cryptography.hazmat.primitives.asymmetric.utils import decode_dss_signature
         pair = ec.generate_private_key(ec.SECP256R1())
         numbers = pair.public_key().public_numbers()
-        self.jwk = {"kty": "EC", "crv": "P-256", **{name: encoded(getattr(numbers, name).to_bytes(32, "big")) for name in "xy"}}
+        self.jwk = {
+            "kty": "EC",
+            "crv": "P-256",
+            **{name: encoded(getattr(numbers, name).to_bytes(32, "big")) for name in "xy"},
+        }
         self.private = pair
         self.sign = lambda text: b"".join(
             number.to_bytes(32, "big") for number in decode_dss_signature(pair.sign(text, ec.ECDSA(hashes.SHA256()))))
@@ -146,19 +150,25 @@ class Public:
         self.policy = sdjwt.Policy({**POLICY, "keys": {"keys": [jwk]}, "algs": ["ES256"]})
         check = self.policy._asking._checking.issuers[0].checks["ES256"]
         self.check = lambda: check(signature, text.encode())
-        self.mixed = sdjwt.Policy({**POLICY, "keys": {"keys": [jwk, *POLICY["keys"]["keys"]]}, "algs": ["ES256", "HS256"]})
+        self.mixed = sdjwt.Policy(
+            {**POLICY, "keys": {"keys": [jwk, *POLICY["keys"]["keys"]]}, "algs": ["ES256", "HS256"]}
+        )
         # the same, where the answer costs nothing
         self.unchecked = sdjwt.Policy({**POLICY, "keys": {"keys": []}, "algs": ["ES256"]}, check=lambda question: True)
 
 
 class Bound:
-    """A presentation with a key binding token, and 21 keys of issuers: the nonce is the policy's, or each call gives it."""
+    """A presentation with a key binding token, and 21 keys of issuers: the nonce is the policy's, or each call gives
+    it.
+    """
 
     def __init__(self):
         issuers, holder = [Pair() for _ in range(21)], Pair()
         keys = {"keys": [{**issuer.jwk, "kid": str(number)} for number, issuer in enumerate(issuers)]}
-        token = sdjwt.issue({"payload": {**ORDER["payload"], "cnf": {"jwk": holder.jwk}}, "hide": ORDER["hide"], "kid": "20"},
-                            sign=issuers[20].private)
+        token = sdjwt.issue(
+            {"payload": {**ORDER["payload"], "cnf": {"jwk": holder.jwk}}, "hide": ORDER["hide"], "kid": "20"},
+            sign=issuers[20].private,
+        )
         order = {"keys": keys, "algs": ["ES256"], "want": ORDER["hide"], "binding": {"aud": "door", "nonce": "4711"}}
         self.token = sdjwt.present(order, token, sign=holder.private).encode()
         binding = {"aud": "door", "keys": {"keys": []}, "max_age": 2**31}
@@ -170,11 +180,18 @@ def tell_bound():
     """What a nonce for each call costs."""
     bound = Bound()
     # by turns, since the machine may be faster at one time than at another
-    times = [(time_of(lambda: bound.kept.verify(bound.token), 1), time_of(lambda: bound.open.verify(bound.token, nonce="4711"), 1))
-             for _ in range(9)]
+    times = [
+        (
+            time_of(lambda: bound.kept.verify(bound.token), 1),
+            time_of(lambda: bound.open.verify(bound.token, nonce="4711"), 1),
+        )
+        for _ in range(9)
+    ]
     kept, given = map(min, zip(*times))
-    print(f"Policy.verify of ES256 with key binding, 21 keys: {kept:.0f} us of the processor; with a nonce for each call "
-          f"{given:.0f} us, {given / kept:.2f} times as much")
+    print(
+        f"Policy.verify of ES256 with key binding, 21 keys: {kept:.0f} us of the processor; with a nonce for each call "
+        f"{given:.0f} us, {given / kept:.2f} times as much"
+    )
 
 
 def tell_public(shown, seconds):

@@ -27,7 +27,8 @@ POOR_CONTRAST = """(() => {
   };
   const hasText = (element) => [...element.childNodes].some((node) => node.nodeType === 3 && node.data.trim());
   const isShown = (element) => element.checkVisibility() && hasText(element);
-  return [...document.querySelectorAll("body *")].filter(isShown).filter(isPoor).map((element) => element.outerHTML.slice(0, 100));
+  const poor = [...document.querySelectorAll("body *")].filter(isShown).filter(isPoor);
+  return poor.map((element) => element.outerHTML.slice(0, 100));
 })()"""
 VERDICT = "document.querySelector('#verdict .title')?.textContent"
 
@@ -41,7 +42,7 @@ def by_browser(service: Service, pictures: Path | None) -> str | None:
     try:
         page.look(1280, 1000)
         page.open(service.base + "/")
-        page.wait("document.documentElement.dataset.ready")
+        page.wait("document.documentElement?.dataset.ready")
         walks = [_walk, _wrong_hands, _typed, _markup, _expired, _fits]
         for walk in walks:
             walk(page)
@@ -108,7 +109,7 @@ def _show(page: Page) -> None:
 
 def _reload(page: Page) -> None:
     page.get("delete document.documentElement.dataset.ready, location.reload()")
-    page.wait("document.documentElement.dataset.ready")
+    page.wait("document.documentElement?.dataset.ready")
 
 
 def _walk(page: Page) -> None:
@@ -210,7 +211,7 @@ def _take(page: Page, folder: Path) -> None:
     _issue(page)
     _show(page)
     _verdict(page, "Admitted: over 18")
-    page.get("document.activeElement.blur()")
+    page.get("document.activeElement.blur(), scrollTo(0, 0)")
     page.picture(folder / "service.png", False)
     for width in (1280, 360):
         for scheme in ("light", "dark"):

@@ -1,9 +1,9 @@
 """Builds the wheel: the files of src/sdjwt, with the library of c/out. It needs nothing but Python.
 
-This is a build backend (PEP 517), so that `pip install ./python` needs no network. The library is that of `sh c/build.sh`,
-or the one that SDJWT_LIBRARY names. Whether the first is proved says its record, `c/out/record`, where it has its sum, but if
-SDJWT_NOT_PROVED says that it is not; of the second nothing is known. A wheel whose library is not proved has `+not.proved`
-behind its version, so that the last line of pip says it.
+This is a build backend (PEP 517), so that `pip install ./python` needs no network. The library is that of `sh
+c/build.sh`, or the one that SDJWT_LIBRARY names. Whether the first is proved says its record, `c/out/record`, where it
+has its sum, but if SDJWT_NOT_PROVED says that it is not; of the second nothing is known. A wheel whose library is not
+proved has `+not.proved` behind its version, so that the last line of pip says it.
 
 For a release SDJWT_PLATFORM names the platforms that the wheel is for, with a dot between two, as
 manylinux_2_17_x86_64; else it is for the machine at hand. The files in it have the date SOURCE_DATE_EPOCH, or one that
@@ -110,7 +110,11 @@ def _built():
     """What the wheel says of itself: its version, whether its library is proved, and the SHA-256 of that."""
     found = hashlib.sha256(_library()).hexdigest()
     proved = _proved(found)
-    return {"version": _field("version") + ("+not.proved" if proved is False else ""), "proved": proved, "sha256": found}
+    return {
+        "version": _field("version") + ("+not.proved" if proved is False else ""),
+        "proved": proved,
+        "sha256": found,
+    }
 
 
 def _version():

@@ -1,4 +1,5 @@
-"""A program of an adopter, as it is written against the package: an issuer, a wallet and a door, with keys from PEM files.
+"""A program of an adopter, as it is written against the package: an issuer, a wallet and a door, with keys from PEM
+files.
 
 The tests run it, and have `mypy --strict` and, where there is one, pyright read it.
 """
@@ -72,7 +73,13 @@ class Issuer:
     def ticket(self, holder: sdjwt.PublicKey, seat: str) -> str:
         """A ticket for a holder, good for a day."""
         until = datetime.now(timezone.utc) + timedelta(days=1)
-        payload = {"iss": self.name, "exp": int(until.timestamp()), "cnf": {"jwk": sdjwt.public_jwk(holder)}, "seat": seat, "name": "Ada"}
+        payload = {
+            "iss": self.name,
+            "exp": int(until.timestamp()),
+            "cnf": {"jwk": sdjwt.public_jwk(holder)},
+            "seat": seat,
+            "name": "Ada",
+        }
         return sdjwt.issue({"payload": payload, "hide": ["/seat", "/name"], "kid": self.kid}, sign=self.private)
 
     @property
@@ -90,7 +97,11 @@ class Door:
 
     def __post_init__(self) -> None:
         rules: dict[str, Any] = {
-            "version": 2, "algs": ["ES256", "EdDSA"], "require": ["seat"], "binding": {"max_age": 300, "keys": {"keys": []}}}
+            "version": 2,
+            "algs": ["ES256", "EdDSA"],
+            "require": ["seat"],
+            "binding": {"max_age": 300, "keys": {"keys": []}},
+        }
         self.policy = sdjwt.Policy(rules, keys=self.keys_of)
         self.later = sdjwt.Policy(rules, keys=self.fetched)
 
@@ -126,7 +137,12 @@ class Door:
 
 def shown_by(holder: str, door: Door, ticket: str, nonce: str) -> str:
     """What a wallet presents."""
-    order = {"keys": list(door.issuers.values()), "algs": ["ES256", "EdDSA"], "want": ["/seat"], "binding": {"aud": DOOR, "nonce": nonce}}
+    order = {
+        "keys": list(door.issuers.values()),
+        "algs": ["ES256", "EdDSA"],
+        "want": ["/seat"],
+        "binding": {"aud": DOOR, "nonce": nonce},
+    }
     return sdjwt.present(order, ticket, sign=holder, check=None)
 
 
@@ -137,8 +153,12 @@ def by_threads(issuers: list[Issuer], door: Door) -> None:
     def visit(seat: str) -> Optional[str]:
         issuer = issuers[int(seat[1:]) % len(issuers)]
         nonce = secrets.token_urlsafe(12)
-        order = {"keys": {"keys": [{**sdjwt.public_jwk(issuer.public), "kid": issuer.kid}]}, "algs": ["ES256", "EdDSA"], "want": ["/seat"],
-                 "binding": {"aud": DOOR, "nonce": nonce}}
+        order = {
+            "keys": {"keys": [{**sdjwt.public_jwk(issuer.public), "kid": issuer.kid}]},
+            "algs": ["ES256", "EdDSA"],
+            "want": ["/seat"],
+            "binding": {"aud": DOOR, "nonce": nonce},
+        }
         shown = sdjwt.present(order, issuer.ticket(HOLDER_PUBLIC, seat), sign=HOLDER_PRIVATE.encode())
         assert door.admit(shown, secrets.token_urlsafe(12)) is None
         return door.admit(shown, nonce)
@@ -163,6 +183,7 @@ async def by_coroutines(issuer: Issuer, door: Door, holder: ec.EllipticCurvePriv
     shown = await sdjwt.present_async(order, ticket, sign=sign, alg="ES256", check=check)
     for checked in await asyncio.gather(*(door.admit_later(shown, "4711") for _ in range(8))):
         assert checked.claims["seat"] == "C1" and checked.header["kid"] == issuer.kid
+        assert checked.disclosed == ("/seat",)
         assert checked.binding is not None and checked.binding["aud"] == DOOR
         assert checked.key == sdjwt.public_jwk(issuer.public)
     assert door.asked == [issuer.name] * 8

@@ -9,7 +9,11 @@ from cryptography.hazmat.primitives.asymmetric.ed25519 import Ed25519PrivateKey
 from cryptography.hazmat.primitives.asymmetric.utils import decode_dss_signature
 from signing import encoded
 
-CURVES = {"ES256": ("P-256", ec.SECP256R1(), 32), "ES384": ("P-384", ec.SECP384R1(), 48), "ES512": ("P-521", ec.SECP521R1(), 66)}
+CURVES = {
+    "ES256": ("P-256", ec.SECP256R1(), 32),
+    "ES384": ("P-384", ec.SECP384R1(), 48),
+    "ES512": ("P-521", ec.SECP521R1(), 66),
+}
 ALGORITHMS = [*CURVES, "EdDSA", "Ed25519", "PS256", "PS384", "PS512", "RS256", "RS384", "RS512"]
 HASHES = {"256": hashes.SHA256(), "384": hashes.SHA384(), "512": hashes.SHA512()}
 
@@ -38,7 +42,11 @@ class Key:
         if self.alg in ("EdDSA", "Ed25519"):
             return self.pair.sign(text)
         hash_alg = HASHES[self.alg[2:]]
-        pad = padding.PSS(padding.MGF1(hash_alg), hash_alg.digest_size) if self.alg.startswith("PS") else padding.PKCS1v15()
+        pad = (
+            padding.PSS(padding.MGF1(hash_alg), hash_alg.digest_size)
+            if self.alg.startswith("PS")
+            else padding.PKCS1v15()
+        )
         return self.pair.sign(text, pad, hash_alg)
 
     def sign(self, text):
@@ -53,20 +61,33 @@ class Key:
         if self.alg in CURVES:
             curve, _, size = CURVES[self.alg]
             numbers = self.pair.public_key().public_numbers()
-            parts = {"kty": "EC", "crv": curve, "x": encoded(numbers.x.to_bytes(size, "big")), "y": encoded(numbers.y.to_bytes(size, "big"))}
+            parts = {
+                "kty": "EC",
+                "crv": curve,
+                "x": encoded(numbers.x.to_bytes(size, "big")),
+                "y": encoded(numbers.y.to_bytes(size, "big")),
+            }
         elif self.alg in ("EdDSA", "Ed25519"):
             raw = self.pair.public_key().public_bytes(serialization.Encoding.Raw, serialization.PublicFormat.Raw)
             parts = {"kty": "OKP", "crv": "Ed25519", "x": encoded(raw)}
         else:
             numbers = self.pair.public_key().public_numbers()
-            parts = {"kty": "RSA", "n": encoded(numbers.n.to_bytes(256, "big")), "e": encoded(numbers.e.to_bytes(3, "big"))}
+            parts = {
+                "kty": "RSA",
+                "n": encoded(numbers.n.to_bytes(256, "big")),
+                "e": encoded(numbers.e.to_bytes(3, "big")),
+            }
         return {**parts, **said}
 
     def pem(self):
-        return self.pair.public_key().public_bytes(serialization.Encoding.PEM, serialization.PublicFormat.SubjectPublicKeyInfo)
+        return self.pair.public_key().public_bytes(
+            serialization.Encoding.PEM, serialization.PublicFormat.SubjectPublicKeyInfo
+        )
 
     def private_pem(self):
-        return self.pair.private_bytes(serialization.Encoding.PEM, serialization.PrivateFormat.PKCS8, serialization.NoEncryption())
+        return self.pair.private_bytes(
+            serialization.Encoding.PEM, serialization.PrivateFormat.PKCS8, serialization.NoEncryption()
+        )
 
 
 def signed(key, header, payload):
@@ -77,7 +98,10 @@ def signed(key, header, payload):
 
 def disclosed(sign, payload, **hidden):
     """A token that hides these claims, with all of its disclosures. `sign` makes the JWT of a payload."""
-    texts = [encoded(json.dumps([f"salt {number}", name, value]).encode()) for number, (name, value) in enumerate(hidden.items())]
+    texts = [
+        encoded(json.dumps([f"salt {number}", name, value]).encode())
+        for number, (name, value) in enumerate(hidden.items())
+    ]
     digests = sorted(encoded(hashlib.sha256(text.encode()).digest()) for text in texts)
     return "~".join([sign({**payload, "_sd": digests, "_sd_alg": "sha-256"}), *texts, ""])
 

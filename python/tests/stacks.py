@@ -2,11 +2,11 @@
 
     python3 stacks.py here        on the main thread: what each call says
     python3 stacks.py small KIB   on a thread of so many KiB: what each call says
-    python3 stacks.py deep KIB    on a thread of so many KiB, one level above the last of a recursion at which a call is not
-                                  refused: the deepest inputs of each call
+python3 stacks.py deep KIB    on a thread of so many KiB, one level above the last of a recursion at which a call is not
+refused: the deepest inputs of each call
 
-What each call says is a line: its name, and the type of what it raised, or `answered`. `deep` prints how many levels and
-how many calls there were.
+What each call says is a line: its name, and the type of what it raised, or `answered`. `deep` prints how many levels
+and how many calls there were.
 """
 import base64
 import json
@@ -82,7 +82,9 @@ def calls_with_keys():
     except ImportError:
         return {}
     key = Key("ES256")
-    keys, token = {"keys": {"keys": [key.jwk()]}, "algs": ["ES256"]}, sdjwt.issue(SIMPLE, SEED, sign=key.sign, alg="ES256")
+    keys, token = {"keys": {"keys": [key.jwk()]}, "algs": ["ES256"]}, sdjwt.issue(
+        SIMPLE, SEED, sign=key.sign, alg="ES256"
+    )
     policy = sdjwt.Policy(keys)
     return {
         "issue, with a private key": lambda: sdjwt.issue(SIMPLE, SEED, sign=key.pair),
@@ -94,7 +96,10 @@ def calls_with_keys():
 
 
 def simple():
-    """Each call, over an order that is no trouble. They hold policies, the last of which is freed where they are dropped."""
+    """Each call, over an order that is no trouble.
+
+    They hold policies, the last of which is freed where they are dropped.
+    """
     return {**calls_over(SIMPLE, "/seat"), **calls_with_keys()}
 
 
@@ -127,13 +132,23 @@ def tokens_with(text):
     yield from (text, flat % f'"header":{text}', flat % f'"header":{{"disclosures":{text}}}', flat % f'"other":{text}',
                 '{"payload":"%s","signatures":[%s]}' % (body, text))
     part = coded(text)
-    yield from (f"{part}.{body}.{signature}~", f"{head}.{part}.{signature}~", f"{token}{coded(f'[0,0,{text}]')}~", f"{token}{part}~",
-                f"{token}{part}.{body}.{signature}", f"{token}{head}.{part}.{signature}")
+    yield from (
+        f"{part}.{body}.{signature}~",
+        f"{head}.{part}.{signature}~",
+        f"{token}{coded(f'[0,0,{text}]')}~",
+        f"{token}{part}~",
+        f"{token}{part}.{body}.{signature}",
+        f"{token}{head}.{part}.{signature}",
+    )
 
 
 def calls_with(token):
     """The calls that a stranger's token goes to."""
-    query, policy, asking = {"keys": KEYS, "want": ["/seat"]}, sdjwt.Policy({"keys": KEYS}), sdjwt.Policy(ASKING, check=yes)
+    query, policy, asking = (
+        {"keys": KEYS, "want": ["/seat"]},
+        sdjwt.Policy({"keys": KEYS}),
+        sdjwt.Policy(ASKING, check=yes),
+    )
     return [
         lambda: sdjwt.show(token), lambda: sdjwt.split(token), lambda: sdjwt.convert("flat", token),
         lambda: policy.verify(token), lambda: asking.verify(token), lambda: sdjwt.verify({"keys": KEYS}, token),
@@ -144,15 +159,25 @@ def calls_with(token):
 
 def files_with(text):
     """Orders, policies and queries that have a text in them."""
-    return [text, *(f'{{"{member}":{text}}}' for member in ("payload", "hide", "keys", "algs", "want", "equal", "binding", "other"))]
+    return [
+        text,
+        *(
+            f'{{"{member}":{text}}}'
+            for member in ("payload", "hide", "keys", "algs", "want", "equal", "binding", "other")
+        ),
+    ]
 
 
 def calls_of(file):
     """The calls that a file goes to."""
     token = sdjwt.issue({**SIMPLE, "key": KEY}, SEED)
     return [
-        lambda: sdjwt.issue(file, SEED), lambda: sdjwt.issue(file, SEED, sign=sign, alg="X1"), lambda: sdjwt.Policy(file),
-        lambda: sdjwt.verify(file, token), lambda: sdjwt.present(file, token), lambda: sdjwt.audit(file, token),
+        lambda: sdjwt.issue(file, SEED),
+        lambda: sdjwt.issue(file, SEED, sign=sign, alg="X1"),
+        lambda: sdjwt.Policy(file),
+        lambda: sdjwt.verify(file, token),
+        lambda: sdjwt.present(file, token),
+        lambda: sdjwt.audit(file, token),
         lambda: sdjwt.wallet(file, [token]),
     ]
 

@@ -54,16 +54,23 @@ def test_a_check_of_each_kind(check):
     order = {"algs": ["X1"], "want": ["/seat"], "binding": {"aud": "door", "nonce": "1"}}
     shown = asyncio.run(sdjwt.present_async(order, TOKEN, NOW, check=check, sign=sign, alg="X1"))
     binding = {"aud": "door", "keys": {"keys": []}, "max_age": 60}
-    assert asyncio.run(sdjwt.Policy({**NOBODY, "binding": binding}, check=check).verify_async(shown, NOW, nonce="1")) == CLAIMS
+    assert (
+        asyncio.run(sdjwt.Policy({**NOBODY, "binding": binding}, check=check).verify_async(shown, NOW, nonce="1"))
+        == CLAIMS
+    )
 
 
 def test_a_sign_of_each_kind():
     for made in (sign, lambda text: b"signed", lambda text: sign(text), partial(sign)):
         token = asyncio.run(sdjwt.issue_async(ORDER, bytes(32), sign=made, alg="X1"))
         assert token == sdjwt.issue(ORDER, bytes(32), sign=lambda text: b"signed", alg="X1")
-    assert asyncio.run(sdjwt.issue_async({**ORDER, "key": KEY}, bytes(32))) == sdjwt.issue({**ORDER, "key": KEY}, bytes(32))
+    assert asyncio.run(sdjwt.issue_async({**ORDER, "key": KEY}, bytes(32))) == sdjwt.issue(
+        {**ORDER, "key": KEY}, bytes(32)
+    )
     token = sdjwt.issue({**ORDER, "key": KEY})
-    assert asyncio.run(sdjwt.present_async({"keys": KEYS, "want": []}, token)) == sdjwt.present({"keys": KEYS, "want": []}, token)
+    assert asyncio.run(sdjwt.present_async({"keys": KEYS, "want": []}, token)) == sdjwt.present(
+        {"keys": KEYS, "want": []}, token
+    )
     assert asyncio.run(sdjwt.Policy({"keys": KEYS}).verify_async(token)) == CLAIMS
 
 
@@ -145,8 +152,11 @@ def test_the_event_loop_goes_on():
     assert asyncio.run(main()) == CLAIMS
 
 
-@each("fault", [LookupError("no way to the HSM"), StopIteration(), sdjwt.OutOfStack("x"), StopAsyncIteration(), GeneratorExit()],
-      ids=lambda fault: type(fault).__name__)
+@each(
+    "fault",
+    [LookupError("no way to the HSM"), StopIteration(), sdjwt.OutOfStack("x"), StopAsyncIteration(), GeneratorExit()],
+    ids=lambda fault: type(fault).__name__,
+)
 def test_what_a_function_raises_comes_out(fault):
     def check(question):
         raise fault
@@ -164,11 +174,17 @@ def test_what_a_function_raises_comes_out(fault):
 
 def test_what_is_refused_is_raised():
     policy = sdjwt.Policy({"keys": KEYS})
-    for call, kind in ((partial(policy.verify_async, "no token"), sdjwt.Refused), (partial(policy.verify_async, 5), TypeError),
-                       (partial(policy.verify_async, "x" * 9, most=3), sdjwt.TooLong), (partial(policy.verify_async, "x", nonce="1"), ValueError),
-                       (partial(policy.check_async, "no token"), sdjwt.Refused), (partial(policy.check_async, 5), TypeError),
-                       (partial(sdjwt.issue_async, {}), sdjwt.Unreadable), (partial(sdjwt.present_async, {}, ""), sdjwt.Unreadable),
-                       (partial(sdjwt.issue_async, ORDER, alg="ES256"), ValueError)):
+    for call, kind in (
+        (partial(policy.verify_async, "no token"), sdjwt.Refused),
+        (partial(policy.verify_async, 5), TypeError),
+        (partial(policy.verify_async, "x" * 9, most=3), sdjwt.TooLong),
+        (partial(policy.verify_async, "x", nonce="1"), ValueError),
+        (partial(policy.check_async, "no token"), sdjwt.Refused),
+        (partial(policy.check_async, 5), TypeError),
+        (partial(sdjwt.issue_async, {}), sdjwt.Unreadable),
+        (partial(sdjwt.present_async, {}, ""), sdjwt.Unreadable),
+        (partial(sdjwt.issue_async, ORDER, alg="ES256"), ValueError),
+    ):
         with pytest.raises(kind):
             asyncio.run(call())
 

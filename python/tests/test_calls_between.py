@@ -1,4 +1,5 @@
-"""Calls that come between others: out of a signal handler, a finalizer, a callback, or a function that the package asks.
+"""Calls that come between others: out of a signal handler, a finalizer, a callback, or a function that the package
+asks.
 
 Each call of an office is made while calls of another office come between, and has to answer what it answers alone.
 """
@@ -128,7 +129,10 @@ def test_each_call_answers_of_its_own_office():
 
 @contextmanager
 def alarms(act):
-    """Has a handler act between bytecodes of what runs, again and again. It is alone: the next alarm comes after its end."""
+    """Has a handler act between bytecodes of what runs, again and again.
+
+    It is alone: the next alarm comes after its end.
+    """
     delays = cycle([0.0001, 0.0002, 0.00005, 0.0003])
 
     def handle(*_):
@@ -186,7 +190,10 @@ def test_a_finalizer_calls_between(name):
 
 
 def bytecodes(act, call, files=PACKAGE):
-    """Acts between each two bytecodes of the package that a call runs, or of these files. What `act` raises is raised there."""
+    """Acts between each two bytecodes of the package that a call runs, or of these files.
+
+    What `act` raises is raised there.
+    """
 
     def trace(frame, event, _):
         # what a finalizer raises goes no further

@@ -1,8 +1,10 @@
-"""Random changes of a token that is signed with ES256, each with the verdict on the same change of one signed with HS256.
+"""Random changes of a token that is signed with ES256, each with the verdict on the same change of one signed with
+HS256.
 
-The two have the same claims, the same disclosures and the same key binding token, and differ in the first letter of `alg`, in
-the signatures and in what hangs on them. What is inside of a signature is changed as well, and then it is signed anew. The one
-with HS256 has the same verdict under a policy with both kinds of keys, whose HMACs are checked in Python.
+The two have the same claims, the same disclosures and the same key binding token, and differ in the first letter of
+`alg`, in the signatures and in what hangs on them. What is inside of a signature is changed as well, and then it is
+signed anew. The one with HS256 has the same verdict under a policy with both kinds of keys, whose HMACs are checked in
+Python.
 """
 import hashlib
 import json
@@ -21,7 +23,15 @@ COUNT = 2000
 NOW = 1_800_000_000
 ISSUER, HOLDER = bytes([1]) * 32, bytes([2]) * 32
 PUBLIC_ISSUER, PUBLIC_HOLDER = Key("ES256", 1), Key("ES256", 2)
-CLAIMS = {"iss": "office", "exp": NOW + 60, "nbf": NOW - 60, "cnf": {"kid": "ada"}, "name": "Ada", "seat": {"row": 7, "number": "B12"}, "list": ["a", "b", {"c": [1, 2]}]}
+CLAIMS = {
+    "iss": "office",
+    "exp": NOW + 60,
+    "nbf": NOW - 60,
+    "cnf": {"kid": "ada"},
+    "name": "Ada",
+    "seat": {"row": 7, "number": "B12"},
+    "list": ["a", "b", {"c": [1, 2]}],
+}
 HIDDEN = ["/name", "/seat", "/seat/row", "/list/0", "/list/2", "/list/2/c", "/list/2/c/1"]
 
 
@@ -40,7 +50,9 @@ PUBLIC = sdjwt.Policy(policy_of("ES256", PUBLIC_ISSUER.jwk(kid="one"), PUBLIC_HO
 
 def with_both_kinds():
     """The policies for both algorithms in one, with the public keys in front."""
-    shared, public = policy_of("HS256", oct_key(ISSUER, "one"), oct_key(HOLDER, "ada")), policy_of("ES256", PUBLIC_ISSUER.jwk(kid="one"), PUBLIC_HOLDER.jwk(kid="ada"))
+    shared, public = policy_of("HS256", oct_key(ISSUER, "one"), oct_key(HOLDER, "ada")), policy_of(
+        "ES256", PUBLIC_ISSUER.jwk(kid="one"), PUBLIC_HOLDER.jwk(kid="ada")
+    )
     for one, other in ((shared, public), (shared["binding"], public["binding"])):
         one["keys"]["keys"] = other["keys"]["keys"] + one["keys"]["keys"]
     return sdjwt.Policy({**shared, "algs": ["HS256", "ES256"]})
@@ -50,10 +62,18 @@ BOTH = with_both_kinds()
 
 
 class Presentation:
-    """What is presented: the head and the body of the JWT, the disclosures, and the head and the body of the key binding token."""
+    """What is presented: the head and the body of the JWT, the disclosures, and the head and the body of the key
+    binding token.
+    """
 
     def __init__(self, salt, claims):
-        order = {"payload": claims, "hide": HIDDEN, "key": encoded(ISSUER), "kid": "one", "decoys": [{"at": "", "count": 2}]}
+        order = {
+            "payload": claims,
+            "hide": HIDDEN,
+            "key": encoded(ISSUER),
+            "kid": "one",
+            "decoys": [{"at": "", "count": 2}],
+        }
         jwt, *self.disclosures, _ = sdjwt.issue(order, hashlib.sha256(salt).digest()).split("~")
         head, body, _ = jwt.split(".")
         self.head, self.body = decoded(head), decoded(body)
@@ -61,7 +81,10 @@ class Presentation:
         self.binding_body = json.dumps({"aud": "door", "nonce": "4711", "iat": NOW - 5, "sd_hash": "HASH"}).encode()
 
     def text(self, letter, sign, sign_binding, others=()):
-        """The token, with this first letter of its algorithms. `others` are disclosures whose hash the key binding token has."""
+        """The token, with this first letter of its algorithms.
+
+        `others` are disclosures whose hash the key binding token has.
+        """
         def jwt(head, body, signer):
             named = head.replace(b"HS256", letter + b"S256")
             text = f"{encoded(named)}.{encoded(body)}"
@@ -75,8 +98,12 @@ class Presentation:
 
 def both(presentation, **more):
     """The token by HMAC, and by public keys."""
-    return (presentation.text(b"H", lambda text: mac(ISSUER, "HS256", text), lambda text: mac(HOLDER, "HS256", text), **more),
-            presentation.text(b"E", PUBLIC_ISSUER.sign, PUBLIC_HOLDER.sign, **more))
+    return (
+        presentation.text(
+            b"H", lambda text: mac(ISSUER, "HS256", text), lambda text: mac(HOLDER, "HS256", text), **more
+        ),
+        presentation.text(b"E", PUBLIC_ISSUER.sign, PUBLIC_HOLDER.sign, **more),
+    )
 
 
 def within_a_signature(chosen, presentation):
@@ -111,21 +138,50 @@ def of_a_disclosure(chosen, presentation):
     at = chosen.randrange(len(presentation.disclosures))
     text = presentation.disclosures[at]
     letter = chosen.randrange(len(text))
-    presentation.disclosures[at] = chosen.choice([
-        text[:letter] + chosen.choice("AQgw_-~.=") + text[letter + 1:], Presentation(b"other", CLAIMS).disclosures[at], encoded(b'["salt","sub","x"]')])
+    presentation.disclosures[at] = chosen.choice(
+        [
+            text[:letter] + chosen.choice("AQgw_-~.=") + text[letter + 1 :],
+            Presentation(b"other", CLAIMS).disclosures[at],
+            encoded(b'["salt","sub","x"]'),
+        ]
+    )
     return {}
 
 
 def of_claims(chosen, presentation):
     """Says other claims."""
-    other = chosen.choice([{"iss": "other"}, {"exp": NOW}, {"exp": "soon"}, {"nbf": NOW + 60}, {"cnf": {"kid": "eve"}}, {"cnf": {}}, {"cnf": "ada"}, {"exp": 2**70}, {"list": []}])
+    other = chosen.choice(
+        [
+            {"iss": "other"},
+            {"exp": NOW},
+            {"exp": "soon"},
+            {"nbf": NOW + 60},
+            {"cnf": {"kid": "eve"}},
+            {"cnf": {}},
+            {"cnf": "ada"},
+            {"exp": 2**70},
+            {"list": []},
+        ]
+    )
     presentation.body = json.dumps({**json.loads(presentation.body), **other}).encode()
     return {}
 
 
 def of_binding(chosen, presentation):
     """Says other claims of the key binding token."""
-    other = chosen.choice([{"aud": "x"}, {"aud": ["y", "door"]}, {"nonce": "1"}, {"iat": NOW - 601}, {"iat": NOW + 9}, {"iat": "now"}, {"sd_hash": "x"}, {"exp": 5}, {"nbf": "x"}])
+    other = chosen.choice(
+        [
+            {"aud": "x"},
+            {"aud": ["y", "door"]},
+            {"nonce": "1"},
+            {"iat": NOW - 601},
+            {"iat": NOW + 9},
+            {"iat": "now"},
+            {"sd_hash": "x"},
+            {"exp": 5},
+            {"nbf": "x"},
+        ]
+    )
     presentation.binding_body = json.dumps({**json.loads(presentation.binding_body), **other}).encode()
     return {}
 
@@ -147,8 +203,16 @@ def other_binding(chosen, tokens):
     """The key binding token of another token, or none."""
     name = chosen.choice(["other", "none", "twice", "the jwt"])
     bindings = [token.rsplit("~", 1)[1] for token in both(Presentation(b"other", CLAIMS))]
-    return [token[:token.rindex("~") + 1] + {"other": binding, "none": "", "twice": token.rsplit("~", 1)[1] + "~" + binding, "the jwt": token.split("~")[0]}[name]
-            for token, binding in zip(tokens, bindings)]
+    return [
+        token[: token.rindex("~") + 1]
+        + {
+            "other": binding,
+            "none": "",
+            "twice": token.rsplit("~", 1)[1] + "~" + binding,
+            "the jwt": token.split("~")[0],
+        }[name]
+        for token, binding in zip(tokens, bindings)
+    ]
 
 
 BEFORE = [within_a_signature, of_disclosures, of_a_disclosure, of_claims, of_binding]
@@ -170,7 +234,9 @@ def test_each_change_has_the_verdict_that_it_has_by_hmac():
         tokens = both(presentation, **more)
         if change in BEHIND:
             tokens = change(chosen, tokens)
-        by_shared, by_public = (without_position(verdict(policy, token.encode(), NOW)) for policy, token in zip((SHARED, PUBLIC), tokens))
+        by_shared, by_public = (
+            without_position(verdict(policy, token.encode(), NOW)) for policy, token in zip((SHARED, PUBLIC), tokens)
+        )
         assert by_public == by_shared, (number, change.__name__, tokens[1])
         for token, due in zip(tokens, (by_shared, by_public)):
             found = without_position(verdict(BOTH, token.encode(), NOW))

@@ -16,17 +16,29 @@ each = pytest.mark.parametrize
 
 def bound(sign_holder=None, **more):
     """A token with key binding, and the policy that asks for it."""
-    token = sdjwt.issue({"payload": {"iss": "tickets", "cnf": {"kid": "ada"}}, "key": KEY, "kid": "one", "typ": "ticket"})
+    token = sdjwt.issue(
+        {"payload": {"iss": "tickets", "cnf": {"kid": "ada"}}, "key": KEY, "kid": "one", "typ": "ticket"}
+    )
     binding = {"aud": "door", "nonce": "4711"}
     shown = sdjwt.present({"keys": KEYS, "binding": {**binding, "key": HOLDER, "kid": "ada"}}, token, NOW)
-    policy = {"keys": KEYS, "binding": {**binding, "keys": {"keys": [{"kty": "oct", "kid": "ada", "k": HOLDER}]}, "max_age": 60}, **more}
+    policy = {
+        "keys": KEYS,
+        "binding": {**binding, "keys": {"keys": [{"kty": "oct", "kid": "ada", "k": HOLDER}]}, "max_age": 60},
+        **more,
+    }
     return shown, policy
 
 
 @each("more", [{}, {"algs": ["HS256", "ES256"]}])
 def test_the_header_and_the_key_binding(more):
     shown, policy = bound(**more)
-    for form in (shown, shown.encode(), sdjwt.convert("flat", shown), sdjwt.convert("general", shown), json.dumps(sdjwt.convert("flat", shown))):
+    for form in (
+        shown,
+        shown.encode(),
+        sdjwt.convert("flat", shown),
+        sdjwt.convert("general", shown),
+        json.dumps(sdjwt.convert("flat", shown)),
+    ):
         checked = sdjwt.Policy(policy).check(form, NOW)
         assert checked.claims == sdjwt.Policy(policy).verify(form, NOW) == {"iss": "tickets", "cnf": {"kid": "ada"}}
         assert checked.header == {"alg": "HS256", "kid": "one", "typ": "ticket"}
@@ -50,8 +62,13 @@ def test_a_key_binding_token_that_is_not_checked_is_not_told():
 def test_what_is_refused_is_refused(more):
     shown, policy = bound(**more)
     kept = sdjwt.Policy(policy)
-    for token, given, kind in ((shown[:-4] + "AAAA", {}, sdjwt.BindingRefused), (shown, {"nonce": "4712"}, sdjwt.NonceDiffers),
-                               (shown, {"audience": "gate"}, sdjwt.AudienceDiffers), ("x", {}, sdjwt.Refused), (5, {}, TypeError)):
+    for token, given, kind in (
+        (shown[:-4] + "AAAA", {}, sdjwt.BindingRefused),
+        (shown, {"nonce": "4712"}, sdjwt.NonceDiffers),
+        (shown, {"audience": "gate"}, sdjwt.AudienceDiffers),
+        ("x", {}, sdjwt.Refused),
+        (5, {}, TypeError),
+    ):
         with pytest.raises(kind):
             kept.check(token, NOW, **given)
     assert kept.check(shown, NOW, nonce="4711", audience="door").claims == kept.verify(shown, NOW)
@@ -63,7 +80,9 @@ def test_the_public_key_of_the_issuer():
     pytest.importorskip("cryptography")
     from public import Key
     issuers = [Key("ES256", number) for number in range(3)]
-    policy = sdjwt.Policy({"keys": [key.jwk(kid=str(number), use="sig") for number, key in enumerate(issuers)], "algs": ["ES256"]})
+    policy = sdjwt.Policy(
+        {"keys": [key.jwk(kid=str(number), use="sig") for number, key in enumerate(issuers)], "algs": ["ES256"]}
+    )
     for number, key in enumerate(issuers):
         token = sdjwt.issue({"payload": {"a": 1}, "kid": str(number)}, sign=key.pair)
         assert policy.check(token).key == {**key.jwk(), "kid": str(number)}
@@ -88,7 +107,12 @@ def test_a_time_may_be_a_datetime():
     for zone in zones:
         exp = datetime.fromtimestamp(NOW, zone)
         for before in (exp - timedelta(microseconds=1), exp - timedelta(days=1)):
-            assert policy.verify(token, before) == sdjwt.verify({"keys": KEYS}, token, before) == policy.check(token, before).claims == {"exp": NOW}
+            assert (
+                policy.verify(token, before)
+                == sdjwt.verify({"keys": KEYS}, token, before)
+                == policy.check(token, before).claims
+                == {"exp": NOW}
+            )
         for after in (exp, exp + timedelta(microseconds=1), datetime.max.replace(tzinfo=zone)):
             with pytest.raises(sdjwt.Expired):
                 policy.verify(token, after)
@@ -107,12 +131,24 @@ class NoZone(datetime):
         return None
 
 
-@each("now, said", [(datetime(2026, 1, 1), "without a time zone"), (NoZone(2026, 1, 1, tzinfo=timezone.utc), "without a time zone"),
-                    (datetime(1969, 12, 31, tzinfo=timezone.utc), "no moment"), (datetime.min.replace(tzinfo=timezone.utc), "no moment"),
-                    (datetime(1970, 1, 1, tzinfo=timezone(timedelta(hours=1))), "no moment")], ids=str)
+@each(
+    "now, said",
+    [
+        (datetime(2026, 1, 1), "without a time zone"),
+        (NoZone(2026, 1, 1, tzinfo=timezone.utc), "without a time zone"),
+        (datetime(1969, 12, 31, tzinfo=timezone.utc), "no moment"),
+        (datetime.min.replace(tzinfo=timezone.utc), "no moment"),
+        (datetime(1970, 1, 1, tzinfo=timezone(timedelta(hours=1))), "no moment"),
+    ],
+    ids=str,
+)
 def test_a_datetime_that_is_no_time(now, said):
     token = sdjwt.issue({"payload": {}, "key": KEY})
-    for call in (sdjwt.Policy({"keys": KEYS}).verify, sdjwt.Policy({"keys": KEYS}).check, lambda *given: sdjwt.verify({"keys": KEYS}, *given),
-                 lambda *given: sdjwt.present({"keys": KEYS}, *given)):
+    for call in (
+        sdjwt.Policy({"keys": KEYS}).verify,
+        sdjwt.Policy({"keys": KEYS}).check,
+        lambda *given: sdjwt.verify({"keys": KEYS}, *given),
+        lambda *given: sdjwt.present({"keys": KEYS}, *given),
+    ):
         with pytest.raises(ValueError, match=f"sdjwt: now is .*{said}"):
             call(token, now)

@@ -1,4 +1,5 @@
-"""What exceptions say to a person and to a log, which class is for which number, and that all of them pickle and copy."""
+"""What exceptions say to a person and to a log, which class is for which number, and that all of them pickle and copy.
+"""
 import copy
 import json
 import logging
@@ -54,7 +55,10 @@ def test_the_numbers_are_those_of_their_sections():
         first, last = map(int, re.search(rf"^## {section}: (\d+) to (\d+)$", page, re.M).groups())
         assert {number for number, its in _errors.CLASSES.items() if its is kind} == set(range(first, last + 1))
     first, last = map(int, re.search(r"Numbers 4 and (\d+) to (\d+) .* the policy has `binding`", page).groups())
-    assert {number for number, its in _errors.CLASSES.items() if issubclass(its, sdjwt.BindingRefused)} == {4, *range(first, last + 1)}
+    assert {number for number, its in _errors.CLASSES.items() if issubclass(its, sdjwt.BindingRefused)} == {
+        4,
+        *range(first, last + 1),
+    }
 
 
 def test_a_refusal_is_a_sentence():
@@ -64,11 +68,16 @@ def test_a_refusal_is_a_sentence():
     assert (fault.line, fault.number, fault.name, fault.place) == ("refused 25 expired", 25, "expired", None)
     assert repr(fault) == "Expired('refused 25 expired')"
     placed = refused(sdjwt.issue, {"payload": {}, "hide": ["/a"], "key": KEY})
-    assert type(placed) is sdjwt.BadOrder and str(placed) == f"{placed.line}: {placed.explanation}" and placed.place == "0"
+    assert (
+        type(placed) is sdjwt.BadOrder and str(placed) == f"{placed.line}: {placed.explanation}" and placed.place == "0"
+    )
 
 
 def test_a_file_that_is_not_of_its_form_says_where():
-    for policy, said in (({"keys": KEYS, "skew": "1"}, "at /skew: it is a text"), ("{", "line 1, column 2: the file ends")):
+    for policy, said in (
+        ({"keys": KEYS, "skew": "1"}, "at /skew: it is a text"),
+        ("{", "line 1, column 2: the file ends"),
+    ):
         with pytest.raises(sdjwt.Unreadable) as caught:
             sdjwt.Policy(policy)
         assert str(caught.value) == f"{caught.value.line}: {caught.value.detail}" and said in str(caught.value)
@@ -78,9 +87,15 @@ def test_a_file_that_is_not_of_its_form_says_where():
 
 def test_a_sentence_has_no_links():
     for heading, said in REFUSALS.items():
-        fault = {"refused": _errors.refusal, "unreadable": lambda line: sdjwt.Unreadable(line.replace(" ", " 1 ", 1))}.get(heading.split()[0])
+        fault = {
+            "refused": _errors.refusal,
+            "unreadable": lambda line: sdjwt.Unreadable(line.replace(" ", " 1 ", 1)),
+        }.get(heading.split()[0])
         if fault is not None:
-            assert str(fault(heading)).partition(": ")[2].split() == re.sub(r"\[([^]]*)\]\([^)]*\)", r"\1", said["explanation"]).split()
+            assert (
+                str(fault(heading)).partition(": ")[2].split()
+                == re.sub(r"\[([^]]*)\]\([^)]*\)", r"\1", said["explanation"]).split()
+            )
 
 
 def test_no_key_is_in_what_is_said():
@@ -112,8 +127,10 @@ def made(kind):
         return kind(f"refused {number} {NAMES[number]} at 3")
     if kind is sdjwt.Unreadable:
         return _errors.unreadable("unreadable 1 notJson", (("policy", b"{"),))
-    return {sdjwt.TooLong: lambda: sdjwt.TooLong("token", 5), sdjwt.SdJwtError: lambda: sdjwt.SdJwtError("usage", "")}.get(
-        kind, lambda: kind("why"))()
+    return {
+        sdjwt.TooLong: lambda: sdjwt.TooLong("token", 5),
+        sdjwt.SdJwtError: lambda: sdjwt.SdJwtError("usage", ""),
+    }.get(kind, lambda: kind("why"))()
 
 
 @each("kind", PUBLIC, ids=lambda kind: kind.__name__)
@@ -124,7 +141,20 @@ def test_each_exception_pickles_and_copies(kind):
     for again in (*copies, copy.copy(fault), copy.deepcopy(fault)):
         assert type(again) is kind and str(again) == str(fault) and again.args == fault.args
         assert again.__notes__ == fault.__notes__
-        for name in ("line", "number", "name", "place", "input", "reason", "detail", "given", "most", "explanation", "cause", "remedy"):
+        for name in (
+            "line",
+            "number",
+            "name",
+            "place",
+            "input",
+            "reason",
+            "detail",
+            "given",
+            "most",
+            "explanation",
+            "cause",
+            "remedy",
+        ):
             assert getattr(again, name, None) == getattr(fault, name, None)
 
 
@@ -135,18 +165,32 @@ def test_a_line_that_is_none_makes_no_exception():
                 kind(line)
 
 
-@each("value, said", [
-    ({"a": {"b": [datetime(2026, 1, 1)]}}, "/payload/a/b/0: datetime"), ({"a": [{}, {"b/c": date(2026, 1, 1)}]}, "/payload/a/1/b~1c: date"),
-    ({"price": Decimal("1.5")}, "/payload/price: Decimal"), ({"a": 1, "b": {1}}, "/payload/b: set"), ({"": b"x"}, "/payload/: bytes"),
-    ({"a": {1: 2}}, "/payload/a: a name of type int"), ({"a": ({None: 2},)}, "/payload/a/0: a name of type NoneType"),
-    ({("a",): 1}, "/payload: a name of type tuple"), (b"x", "/payload: bytes")], ids=str)
+@each(
+    "value, said",
+    [
+        ({"a": {"b": [datetime(2026, 1, 1)]}}, "/payload/a/b/0: datetime"),
+        ({"a": [{}, {"b/c": date(2026, 1, 1)}]}, "/payload/a/1/b~1c: date"),
+        ({"price": Decimal("1.5")}, "/payload/price: Decimal"),
+        ({"a": 1, "b": {1}}, "/payload/b: set"),
+        ({"": b"x"}, "/payload/: bytes"),
+        ({"a": {1: 2}}, "/payload/a: a name of type int"),
+        ({"a": ({None: 2},)}, "/payload/a/0: a name of type NoneType"),
+        ({("a",): 1}, "/payload: a name of type tuple"),
+        (b"x", "/payload: bytes"),
+    ],
+    ids=str,
+)
 def test_a_type_that_json_has_not_is_named_with_its_place(value, said):
     with pytest.raises(TypeError) as caught:
         sdjwt.issue({"payload": value, "key": KEY})
     assert str(caught.value).startswith("sdjwt: order can't be written as JSON: " + said)
 
 
-@each("value, said", [({"a": [1, float("nan")]}, "/payload/a/1: the number nan"), (float("-inf"), "/payload: the number -inf")], ids=str)
+@each(
+    "value, said",
+    [({"a": [1, float("nan")]}, "/payload/a/1: the number nan"), (float("-inf"), "/payload: the number -inf")],
+    ids=str,
+)
 def test_a_number_that_json_has_not_is_named_with_its_place(value, said):
     with pytest.raises(ValueError) as caught:
         sdjwt.issue({"payload": value, "key": KEY})

@@ -15,7 +15,9 @@ TOP = Path(__file__).resolve().parent.parent.parent
 PAGE = (TOP / "docs/REFUSALS.md").read_text(encoding="utf-8")
 ENTRIES = re.findall(r"^(?:### ([\w ]+?)(?: <a id=\"\d+\"></a>)?|\| `([A-Za-z_ ]+)` \|.*\|.*\|.*\|)$", PAGE, re.M)
 HEADINGS = [heading or f"unreadable {reason}" for heading, reason in ENTRIES]
-LINES = re.findall(r"^[^#\n].* = ([1-6]) (.*)$", (TOP / "examples/refusals/cases.txt").read_text(encoding="utf-8"), re.M)
+LINES = re.findall(
+    r"^[^#\n].* = ([1-6]) (.*)$", (TOP / "examples/refusals/cases.txt").read_text(encoding="utf-8"), re.M
+)
 POLICY = TOP / "examples/refusals/policy_short_key.json"
 
 
@@ -24,7 +26,9 @@ def explain(*words, given=b"", program=TOP / "python/explain.py", **more):
 
 
 def said(run):
-    """What a run printed, with each run of blanks and line ends as one blank: the lines are wrapped where they are long."""
+    """What a run printed, with each run of blanks and line ends as one blank: the lines are wrapped where they are
+    long.
+    """
     return b" ".join(run.stdout.split())
 
 
@@ -47,7 +51,11 @@ def test_each_entry_is_found_by_its_number_its_name_and_its_line():
         for wanted in (heading, *numbered, " ".join(words[words[0] == "unreadable":])):
             assert heading in program.found(wanted, entries), wanted
     run = explain("form")
-    assert run.returncode == 0 and run.stdout.startswith(b"refused 2 form\n\nMeans: ") and b"\n\nLikely cause: " in run.stdout
+    assert (
+        run.returncode == 0
+        and run.stdout.startswith(b"refused 2 form\n\nMeans: ")
+        and b"\n\nLikely cause: " in run.stdout
+    )
 
 
 def test_each_line_of_a_pipe_is_explained():
@@ -64,14 +72,35 @@ def test_each_line_of_a_pipe_is_explained():
     assert explain(given=b"no refusal\n").returncode == 0
 
 
-@pytest.mark.parametrize("words", [("88",), ("no", "entry"), ("",), ("refused 10 formDiffers",), ("wrong",), ("--version",), ("unreadable 1 x", POLICY)])
+@pytest.mark.parametrize(
+    "words",
+    [
+        ("88",),
+        ("no", "entry"),
+        ("",),
+        ("refused 10 formDiffers",),
+        ("wrong",),
+        ("--version",),
+        ("unreadable 1 x", POLICY),
+    ],
+)
 def test_words_that_have_no_entry(words):
     run = explain(*words)
     assert (run.returncode, run.stdout) == (1, b"") and b"there is no entry" in run.stderr
 
 
-@pytest.mark.parametrize("line", ["refused 57", "refused 57 decoyPlace", "refused 73 consentRefused at 0",
-                                  'refused 52 reservedInPayload at "/a b"', "unreadable 1 missing algs", "notAsked", "unread 2"])
+@pytest.mark.parametrize(
+    "line",
+    [
+        "refused 57",
+        "refused 57 decoyPlace",
+        "refused 73 consentRefused at 0",
+        'refused 52 reservedInPayload at "/a b"',
+        "unreadable 1 missing algs",
+        "notAsked",
+        "unread 2",
+    ],
+)
 def test_a_line_or_its_front_is_taken_with_and_without_quotes(line):
     quoted, unquoted = explain(line), explain(*line.split(" "))
     assert quoted.returncode == 0 and quoted.stdout.startswith(b" ".join(line.encode().split()[:1])[:6])
@@ -79,7 +108,12 @@ def test_a_line_or_its_front_is_taken_with_and_without_quotes(line):
 
 
 def test_what_is_said_of_a_file():
-    for words in (("unreadable 1 wrong keys",), ("unreadable", "1", "wrong", "keys"), ("wrong keys",), ("wrong", "keys")):
+    for words in (
+        ("unreadable 1 wrong keys",),
+        ("unreadable", "1", "wrong", "keys"),
+        ("wrong keys",),
+        ("wrong", "keys"),
+    ):
         run = explain(*words, POLICY.name, cwd=POLICY.parent)
         assert run.returncode == 0 and b"In policy_short_key.json: at /keys/keys/0/k: it codes 9 bytes" in said(run)
     assert b"no such fault is found" in said(explain("unreadable 1 notJson", POLICY))
@@ -102,7 +136,9 @@ def test_a_reader_that_wants_no_more_ends_it_without_a_word(words):
     reader, writer = os.pipe()
     os.close(reader)
     with open(writer, "wb") as out:
-        run = subprocess.run([sys.executable, TOP / "python/explain.py", *words], input=given, stdout=out, stderr=subprocess.PIPE)
+        run = subprocess.run(
+            [sys.executable, TOP / "python/explain.py", *words], input=given, stdout=out, stderr=subprocess.PIPE
+        )
     assert (run.returncode, run.stderr) == (-signal.SIGPIPE, b"")
 
 
@@ -110,8 +146,13 @@ def test_a_reader_that_wants_no_more_ends_it_without_a_word(words):
 def test_an_answer_that_can_not_be_written(words):
     given = b"refused 25 expired\n" * 10000
     with open("/dev/full", "wb") as out:
-        run = subprocess.run([sys.executable, TOP / "python/explain.py", *words], input=given, stdout=out, stderr=subprocess.PIPE)
-    assert (run.returncode, run.stderr) == (4, b"sdjwt-explain: the answer could not be written: No space left on device\n")
+        run = subprocess.run(
+            [sys.executable, TOP / "python/explain.py", *words], input=given, stdout=out, stderr=subprocess.PIPE
+        )
+    assert (run.returncode, run.stderr) == (
+        4,
+        b"sdjwt-explain: the answer could not be written: No space left on device\n",
+    )
     for closed, due in ((">&-", b"it is closed"), ("</dev/null >&-", b"it is closed")):
         run = subprocess.run(["sh", "-c", f'"$0" "$@" {closed}', sys.executable, TOP / "python/explain.py", *words],
                              input=given, capture_output=True)
@@ -130,7 +171,9 @@ def test_a_file_that_is_not_there(name):
 
 
 def test_it_finds_its_files_where_it_is_installed(tmp_path):
-    for source, target in re.findall(r"^ *put \d+ (python/\S+|docs/REFUSALS.md) (\S+)$", (TOP / "install.sh").read_text(encoding="utf-8"), re.M):
+    for source, target in re.findall(
+        r"^ *put \d+ (python/\S+|docs/REFUSALS.md) (\S+)$", (TOP / "install.sh").read_text(encoding="utf-8"), re.M
+    ):
         (tmp_path / target).parent.mkdir(parents=True, exist_ok=True)
         shutil.copy(TOP / source, tmp_path / target)
     before = sorted(tmp_path.rglob("*"))

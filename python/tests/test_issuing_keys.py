@@ -1,4 +1,6 @@
-"""Tokens that are issued with a private key, or by a function that signs: verified here and by others, and what is refused."""
+"""Tokens that are issued with a private key, or by a function that signs: verified here and by others, and what is
+refused.
+"""
 import builtins
 import hashlib
 import hmac
@@ -16,7 +18,10 @@ from signing import HASHES, decoded, encoded  # noqa: E402
 from test_public_peers import COMMON, PEERS  # noqa: E402
 
 SEED = bytes(range(32))
-ORDER = {"payload": {"iss": "office", "seat": "B12", "name": "Ada", "list": [1, 2]}, "hide": ["/seat", "/name", "/list/0"]}
+ORDER = {
+    "payload": {"iss": "office", "seat": "B12", "name": "Ada", "list": [1, 2]},
+    "hide": ["/seat", "/name", "/list/0"],
+}
 CLAIMS = ORDER["payload"]
 # The algorithms that a key signs by where none is named.
 USUAL = [*CURVES, "EdDSA"]
@@ -50,7 +55,10 @@ def test_a_token_is_accepted_under_the_public_key_alone(alg):
     assert policy_of(key).verify(token) == CLAIMS
     assert sdjwt.show(token)["header"] == {"alg": alg}
     assert line(policy_of(other), token) == "badSignature"
-    assert line(sdjwt.Policy({"keys": {"keys": [key.jwk()]}, "algs": [name for name in ALGORITHMS if name != alg]}), token) == "algRefused"
+    assert (
+        line(sdjwt.Policy({"keys": {"keys": [key.jwk()]}, "algs": [name for name in ALGORITHMS if name != alg]}), token)
+        == "algRefused"
+    )
 
 
 @each("alg", ALGORITHMS)
@@ -100,19 +108,33 @@ def test_a_function_is_given_just_the_bytes_that_are_signed():
 
 def test_each_kind_of_bytes_is_a_signature():
     for signature in (b"s", bytearray(b"s"), memoryview(b"s"), memoryview(b"s-s-")[:1]):
-        assert sdjwt.issue(ORDER, SEED, sign=lambda text, its=signature: its, alg="X1") == sdjwt.issue(ORDER, SEED, sign=lambda text: b"s", alg="X1")
+        assert sdjwt.issue(ORDER, SEED, sign=lambda text, its=signature: its, alg="X1") == sdjwt.issue(
+            ORDER, SEED, sign=lambda text: b"s", alg="X1"
+        )
 
 
-@each("more", [
-    {}, {"kid": "k"}, {"typ": "t"}, {"sd_alg": "sha-512"}, {"hide": []}, {"hide": ["/list", "/list/1"], "kid": "k", "typ": "t"},
-    {"decoys": [{"at": "", "count": 3}, {"at": "/list", "count": 2}]}, {"payload": {"text": "x" * 10_000, "\u00e9\U0001f600": None}, "hide": ["/text"]},
-], ids=lambda more: "-".join(more) or "plain")
+@each(
+    "more",
+    [
+        {},
+        {"kid": "k"},
+        {"typ": "t"},
+        {"sd_alg": "sha-512"},
+        {"hide": []},
+        {"hide": ["/list", "/list/1"], "kid": "k", "typ": "t"},
+        {"decoys": [{"at": "", "count": 3}, {"at": "/list", "count": 2}]},
+        {"payload": {"text": "x" * 10_000, "\u00e9\U0001f600": None}, "hide": ["/text"]},
+    ],
+    ids=lambda more: "-".join(more) or "plain",
+)
 def test_by_an_hmac_it_is_the_token_that_the_library_signs(more):
     order = {**ORDER, **more}
     for seed in (SEED, bytes(32), b"\xff" * 32):
         assert sdjwt.issue(order, seed, sign=mac, alg="HS256") == sdjwt.issue({**order, "key": encoded(SECRET)}, seed)
         for alg in ("HS384", "HS512"):
-            signed = sdjwt.issue(order, seed, sign=lambda text, by=HASHES[alg[2:]]: hmac.new(SECRET, text, by).digest(), alg=alg)
+            signed = sdjwt.issue(
+                order, seed, sign=lambda text, by=HASHES[alg[2:]]: hmac.new(SECRET, text, by).digest(), alg=alg
+            )
             assert signed == sdjwt.issue({**order, "key": encoded(SECRET), "alg": alg}, seed)
 
 
@@ -126,7 +148,15 @@ def test_a_seed_is_drawn_once_for_each_token():
 def test_an_order_may_be_a_text_too():
     key = Key("EdDSA")
     text = json.dumps(ORDER)
-    assert len({sdjwt.issue(order, SEED, sign=key.pair) for order in (ORDER, text, text.encode(), bytearray(text.encode()))}) == 1
+    assert (
+        len(
+            {
+                sdjwt.issue(order, SEED, sign=key.pair)
+                for order in (ORDER, text, text.encode(), bytearray(text.encode()))
+            }
+        )
+        == 1
+    )
 
 
 # ---- what is refused
@@ -153,11 +183,17 @@ def test_a_token_may_be_too_long_with_its_signature():
     assert caught.value.line == "refused 61 issueTooLong"
 
 
-@each("order, reason, said", [
-    ({**ORDER, "key": encoded(SECRET)}, "unknown", '"key" is no member of an order without a key'),
-    ({**ORDER, "alg": "ES256"}, "unknown", '"alg" is no member of an order without a key'),
-    ({"hide": []}, "missing payload", '"payload" has to be one'), ({**ORDER, "hide": "/seat"}, "wrong hide", "/hide"), ("{", "notJson", "line 1"),
-], ids=str)
+@each(
+    "order, reason, said",
+    [
+        ({**ORDER, "key": encoded(SECRET)}, "unknown", '"key" is no member of an order without a key'),
+        ({**ORDER, "alg": "ES256"}, "unknown", '"alg" is no member of an order without a key'),
+        ({"hide": []}, "missing payload", '"payload" has to be one'),
+        ({**ORDER, "hide": "/seat"}, "wrong hide", "/hide"),
+        ("{", "notJson", "line 1"),
+    ],
+    ids=str,
+)
 def test_an_order_that_is_none(order, reason, said):
     for alg in ("ES256", "X1"):
         with pytest.raises(sdjwt.Unreadable) as caught:
@@ -223,7 +259,9 @@ def test_the_library_knows_no_other_names(alg):
 @each("alg", [*ALGORITHMS, "HS256", "ES256K", "es256"])
 def test_a_key_signs_by_its_own_algorithms_alone(kind, alg):
     key = Key(kind)
-    fits = {"EdDSA": ("EdDSA", "Ed25519"), "PS256": ("PS256", "PS384", "PS512", "RS256", "RS384", "RS512")}.get(kind, (kind,))
+    fits = {"EdDSA": ("EdDSA", "Ed25519"), "PS256": ("PS256", "PS384", "PS512", "RS256", "RS384", "RS512")}.get(
+        kind, (kind,)
+    )
     if alg in fits:
         assert sdjwt.show(sdjwt.issue(ORDER, sign=key.pair, alg=alg))["header"]["alg"] == alg
         return
@@ -274,5 +312,9 @@ def test_a_function_needs_no_cryptography_and_a_key_does(monkeypatch):
     monkeypatch.delattr(sdjwt, "_signatures", raising=False)
     with pytest.raises(sdjwt.NoCryptography) as caught:
         sdjwt.issue(ORDER, sign=key.pair)
-    assert isinstance(caught.value, ImportError) and caught.value.line.endswith(": pip install cryptography") and "private key" in caught.value.line
+    assert (
+        isinstance(caught.value, ImportError)
+        and caught.value.line.endswith(": pip install cryptography")
+        and "private key" in caught.value.line
+    )
     assert sdjwt.issue(ORDER, SEED, sign=mac, alg="HS256") == sdjwt.issue({**ORDER, "key": encoded(SECRET)}, SEED)

@@ -1,7 +1,7 @@
 """The vectors that verify, where the signatures are checked here: the same verdicts.
 
-Their tokens are signed anew under names that no library knows, as `TS256` in the place of `HS256`, and a function that has
-the keys of the policy is asked about each signature. So the whole of a verification but its signatures is tried.
+Their tokens are signed anew under names that no library knows, as `TS256` in the place of `HS256`, and a function that
+has the keys of the policy is asked about each signature. So the whole of a verification but its signatures is tried.
 """
 import hmac
 import json
@@ -53,14 +53,24 @@ def judge(policy_text, token, now):
     """The verdict by HMAC, and that where a function is asked."""
     by_library = verdict(sdjwt.Policy(policy_text), token, now)
     policy = json.loads(policy_text)
-    keys = [key for key_set in (policy["keys"], policy.get("binding", {}).get("keys", {"keys": []})) for _, key in oct_keys(key_set)]
-    anew = Resigner("TS", [*keys, bytes([1]) * 32, bytes([2]) * 32], lambda key, alg, text: mac(key, alg, text)).token(token)
+    keys = [
+        key
+        for key_set in (policy["keys"], policy.get("binding", {}).get("keys", {"keys": []}))
+        for _, key in oct_keys(key_set)
+    ]
+    anew = Resigner("TS", [*keys, bytes([1]) * 32, bytes([2]) * 32], lambda key, alg, text: mac(key, alg, text)).token(
+        token
+    )
     return by_library, verdict(sdjwt.Policy(asked(policy), check=checker(policy)), anew, now)
 
 
 def is_other_holder(by_library, by_function):
-    """Whether a holder's key is unknown, and a function is not asked for it, since the header is not read or not taken."""
-    return by_library == "refused 27 holderKeyUnknown" and by_function in ("refused 28 bindingHeader", "refused 29 bindingAlg")
+    """Whether a holder's key is unknown, and a function is not asked for it, since the header is not read or not taken.
+    """
+    return by_library == "refused 27 holderKeyUnknown" and by_function in (
+        "refused 28 bindingHeader",
+        "refused 29 bindingAlg",
+    )
 
 
 @pytest.fixture

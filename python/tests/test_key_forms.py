@@ -48,8 +48,11 @@ def private_jwk(key, **said):
     elif key.alg == "EdDSA":
         secret = {"d": encoded(key.pair.private_bytes(Encoding.Raw, PrivateFormat.Raw, NoEncryption()))}
     else:
-        secret = {"d": encoded(numbers.d.to_bytes(256, "big").lstrip(b"\0")), "p": encoded(numbers.p.to_bytes(128, "big")),
-                  "q": encoded(numbers.q.to_bytes(128, "big"))}
+        secret = {
+            "d": encoded(numbers.d.to_bytes(256, "big").lstrip(b"\0")),
+            "p": encoded(numbers.p.to_bytes(128, "big")),
+            "q": encoded(numbers.q.to_bytes(128, "big")),
+        }
     return {**key.jwk(**said), **secret}
 
 
@@ -63,8 +66,15 @@ def public_forms(key):
     jwk = key.jwk(kid="one")
     of_one = [public, pem, pem.decode(), memoryview(pem), jwk]
     other = Key("EdDSA" if key.alg == "ES256" else "ES256", 7)
-    return [*of_one, *([one] for one in of_one), *({"keys": [one]} for one in of_one), [other.pem(), public], (other.jwk(), pem),
-            [other.pem() + pem], other.pem() + pem]
+    return [
+        *of_one,
+        *([one] for one in of_one),
+        *({"keys": [one]} for one in of_one),
+        [other.pem(), public],
+        (other.jwk(), pem),
+        [other.pem() + pem],
+        other.pem() + pem,
+    ]
 
 
 @each("alg", ALGS)
@@ -78,11 +88,19 @@ def test_each_form_of_a_private_key_signs(alg):
 def test_each_form_of_a_public_key_verifies(alg):
     token = sdjwt.issue(ORDER, sign=KEYS[alg].pair, **named(alg))
     for form in public_forms(KEYS[alg]):
-        for policy in (sdjwt.Policy({"keys": form, "algs": [alg]}), sdjwt.Policy({"algs": [alg]}, keys=form),
-                       sdjwt.Policy(json.dumps({"algs": [alg]}), keys=form), sdjwt.Policy({"algs": [alg]}, keys=lambda iss, header, it=form: it)):
+        for policy in (
+            sdjwt.Policy({"keys": form, "algs": [alg]}),
+            sdjwt.Policy({"algs": [alg]}, keys=form),
+            sdjwt.Policy(json.dumps({"algs": [alg]}), keys=form),
+            sdjwt.Policy({"algs": [alg]}, keys=lambda iss, header, it=form: it),
+        ):
             assert policy.verify(token) == CLAIMS
             assert policy.check(token).key["kty"] == KEYS[alg].jwk()["kty"]
-        assert sdjwt.verify({"algs": [alg]}, token, keys=form) == sdjwt.verify({"algs": [alg], "keys": form}, token) == CLAIMS
+        assert (
+            sdjwt.verify({"algs": [alg]}, token, keys=form)
+            == sdjwt.verify({"algs": [alg], "keys": form}, token)
+            == CLAIMS
+        )
 
 
 @each("alg", ALGS)
@@ -93,18 +111,34 @@ def test_a_holder_presents_with_each_form_under_each_form(alg):
     binding = {"aud": "door", "nonce": "4711"}
     for keys, sign in zip(public_forms(KEYS[alg])[:5], private_forms(holder)):
         shown = sdjwt.present({"keys": keys, "algs": [alg], "binding": binding}, token, sign=sign)
-        policy = {"keys": keys, "algs": [alg], "binding": {"aud": "door", "max_age": 60, "keys": {"keys": []}, "algs": ["ES256"]}}
+        policy = {
+            "keys": keys,
+            "algs": [alg],
+            "binding": {"aud": "door", "max_age": 60, "keys": {"keys": []}, "algs": ["ES256"]},
+        }
         assert sdjwt.verify(policy, shown, nonce="4711") == order["payload"]
 
 
 def test_the_keys_of_holders_in_each_form():
     holder = Key("ES256", 5)
     token = sdjwt.issue({"payload": {"cnf": {"kid": "ada"}}, "key": SHARED})
-    shown = sdjwt.present({"keys": {"keys": [{"kty": "oct", "k": SHARED}]}, "algs": ["HS256"], "binding": {"aud": "door", "nonce": "1"}}, token,
-                          sign=holder.private_pem())
-    for keys, is_named in (({"keys": [holder.jwk(kid="ada")]}, True), ([holder.jwk(kid="ada")], True), (holder.jwk(kid="ada"), True), (holder.pem(), False)):
-        policy = sdjwt.Policy({"keys": {"kty": "oct", "k": SHARED},
-                               "binding": {"keys": keys, "algs": ["ES256"], "aud": "door", "nonce": "1", "max_age": 60}})
+    shown = sdjwt.present(
+        {"keys": {"keys": [{"kty": "oct", "k": SHARED}]}, "algs": ["HS256"], "binding": {"aud": "door", "nonce": "1"}},
+        token,
+        sign=holder.private_pem(),
+    )
+    for keys, is_named in (
+        ({"keys": [holder.jwk(kid="ada")]}, True),
+        ([holder.jwk(kid="ada")], True),
+        (holder.jwk(kid="ada"), True),
+        (holder.pem(), False),
+    ):
+        policy = sdjwt.Policy(
+            {
+                "keys": {"kty": "oct", "k": SHARED},
+                "binding": {"keys": keys, "algs": ["ES256"], "aud": "door", "nonce": "1", "max_age": 60},
+            }
+        )
         if is_named:
             assert policy.verify(shown) == {"cnf": {"kid": "ada"}}
         else:
@@ -121,7 +155,11 @@ def test_objects_of_jwcrypto():
         keys = jwk.JWKSet()
         keys.add(public)
         for form in (public, [public], keys, {"keys": [public]}):
-            assert sdjwt.verify({"algs": [alg]}, token, keys=form) == sdjwt.verify({"algs": [alg], "keys": form}, token) == CLAIMS
+            assert (
+                sdjwt.verify({"algs": [alg]}, token, keys=form)
+                == sdjwt.verify({"algs": [alg], "keys": form}, token)
+                == CLAIMS
+            )
         assert sdjwt.public_jwk(private) == sdjwt.public_jwk(public) == sdjwt.public_jwk(KEYS[alg].pem())
         assert sdjwt.public_jwk(public, kid=True)["kid"] == public.thumbprint()
 
@@ -135,23 +173,44 @@ def encrypted(encoding):
 def certificate(key):
     name = x509.Name([x509.NameAttribute(x509.NameOID.COMMON_NAME, "tickets")])
     now = datetime.now(timezone.utc)
-    made = x509.CertificateBuilder().subject_name(name).issuer_name(name).public_key(key.pair.public_key()).serial_number(1)
-    return made.not_valid_before(now - timedelta(days=1)).not_valid_after(now + timedelta(days=1)).sign(key.pair, hashes.SHA256())
+    made = (
+        x509.CertificateBuilder()
+        .subject_name(name)
+        .issuer_name(name)
+        .public_key(key.pair.public_key())
+        .serial_number(1)
+    )
+    return (
+        made.not_valid_before(now - timedelta(days=1))
+        .not_valid_after(now + timedelta(days=1))
+        .sign(key.pair, hashes.SHA256())
+    )
 
 
 BROKEN = b"-----BEGIN %s-----\nAAAA\n-----END %s-----\n"
 PRIVATE_FAULTS = [
-    (encrypted(PrivateFormat.PKCS8), "encrypted"), (encrypted(PrivateFormat.TraditionalOpenSSL), "encrypted"),
-    (KEYS["ES256"].pem(), "0 private keys"), (KEYS["ES256"].private_pem() * 2, "2 private keys"),
-    (BROKEN % (b"PRIVATE KEY", b"PRIVATE KEY"), "no PEM of a private key"), (KEYS["ES256"].private_pem()[:-20], "with an end"),
-    (certificate(KEYS["ES256"]).public_bytes(Encoding.PEM), "certificate"), (Key("ES256").jwk(), "a public key"),
-    ({"kty": "oct", "k": SHARED}, "shared key"), (private_jwk(KEYS["ES256"], use="enc"), "use"),
-    (private_jwk(KEYS["ES256"], key_ops=["verify"]), "key_ops"), (private_jwk(KEYS["ES256"], key_ops="sign"), "key_ops"),
-    ({**private_jwk(KEYS["ES256"]), "x": Key("ES256", 1).jwk()["x"]}, "not of one key"), ({**private_jwk(KEYS["ES256"]), "d": "AA"}, "no private key"),
-    ({**private_jwk(KEYS["ES256"]), "d": 5}, "d is no base64url"), ({**private_jwk(KEYS["EdDSA"]), "d": "AA"}, "d has not just 32 bytes"),
-    ({**private_jwk(KEYS["EdDSA"]), "x": Key("EdDSA", 1).jwk()["x"]}, "not of one key"), ({**private_jwk(KEYS["PS256"]), "p": "AQAB"}, "no private key"),
-    ({**private_jwk(KEYS["ES256"]), "crv": "secp256k1"}, "no JWK of"), ({"kty": ["EC"], "d": "AA"}, "no JWK of"),
-    (private_jwk(KEYS["ES256"], alg=7), "alg is no text")]
+    (encrypted(PrivateFormat.PKCS8), "encrypted"),
+    (encrypted(PrivateFormat.TraditionalOpenSSL), "encrypted"),
+    (KEYS["ES256"].pem(), "0 private keys"),
+    (KEYS["ES256"].private_pem() * 2, "2 private keys"),
+    (BROKEN % (b"PRIVATE KEY", b"PRIVATE KEY"), "no PEM of a private key"),
+    (KEYS["ES256"].private_pem()[:-20], "with an end"),
+    (certificate(KEYS["ES256"]).public_bytes(Encoding.PEM), "certificate"),
+    (Key("ES256").jwk(), "a public key"),
+    ({"kty": "oct", "k": SHARED}, "shared key"),
+    (private_jwk(KEYS["ES256"], use="enc"), "use"),
+    (private_jwk(KEYS["ES256"], key_ops=["verify"]), "key_ops"),
+    (private_jwk(KEYS["ES256"], key_ops="sign"), "key_ops"),
+    ({**private_jwk(KEYS["ES256"]), "x": Key("ES256", 1).jwk()["x"]}, "not of one key"),
+    ({**private_jwk(KEYS["ES256"]), "d": "AA"}, "no private key"),
+    ({**private_jwk(KEYS["ES256"]), "d": 5}, "d is no base64url"),
+    ({**private_jwk(KEYS["EdDSA"]), "d": "AA"}, "d has not just 32 bytes"),
+    ({**private_jwk(KEYS["EdDSA"]), "x": Key("EdDSA", 1).jwk()["x"]}, "not of one key"),
+    ({**private_jwk(KEYS["PS256"]), "p": "AQAB"}, "no private key"),
+    ({**private_jwk(KEYS["ES256"]), "crv": "secp256k1"}, "no JWK of"),
+    ({"kty": ["EC"], "d": "AA"}, "no JWK of"),
+    (private_jwk(KEYS["ES256"], alg=7), "alg is no text"),
+]
 
 
 @each("sign, said", PRIVATE_FAULTS, ids=[said for _, said in PRIVATE_FAULTS])
@@ -168,8 +227,11 @@ def test_the_algorithm_that_a_jwk_names():
     for alg, more in (("PS384", {}), ("PS384", {"alg": "PS384"})):
         token = sdjwt.issue(ORDER, sign=private_jwk(KEYS["PS256"], alg=alg), **more)
         assert sdjwt.show(token)["header"] == {"alg": alg}
-    for jwk, alg in ((private_jwk(KEYS["PS256"], alg="PS384"), "PS256"), (private_jwk(KEYS["ES256"], alg="ES384"), None),
-                     (private_jwk(KEYS["EdDSA"], alg="Ed25519"), "EdDSA")):
+    for jwk, alg in (
+        (private_jwk(KEYS["PS256"], alg="PS384"), "PS256"),
+        (private_jwk(KEYS["ES256"], alg="ES384"), None),
+        (private_jwk(KEYS["EdDSA"], alg="Ed25519"), "EdDSA"),
+    ):
         with pytest.raises(ValueError, match="alg does not fit"):
             sdjwt.issue(ORDER, sign=jwk, alg=alg)
 
@@ -181,14 +243,26 @@ def test_a_file_of_openssl():
     assert sdjwt.verify({"algs": ["ES256"], "keys": KEYS["ES256"].pem()}, token) == CLAIMS
 
 
-@each("keys, said", [(BROKEN % (b"PUBLIC KEY", b"PUBLIC KEY"), "no PEM of a public key"), (KEYS["ES256"].pem()[:-9], "with an end"),
-                     (encrypted(PrivateFormat.PKCS8), "encrypted"), (certificate(KEYS["ES256"]).public_bytes(Encoding.PEM), "certificate"),
-                     (ec.generate_private_key(ec.SECP256K1()).public_key(), "secp256k1")], ids=lambda it: it if isinstance(it, str) else "")
+@each(
+    "keys, said",
+    [
+        (BROKEN % (b"PUBLIC KEY", b"PUBLIC KEY"), "no PEM of a public key"),
+        (KEYS["ES256"].pem()[:-9], "with an end"),
+        (encrypted(PrivateFormat.PKCS8), "encrypted"),
+        (certificate(KEYS["ES256"]).public_bytes(Encoding.PEM), "certificate"),
+        (ec.generate_private_key(ec.SECP256K1()).public_key(), "secp256k1"),
+    ],
+    ids=lambda it: it if isinstance(it, str) else "",
+)
 def test_what_is_no_public_key_is_told_with_its_place(keys, said):
     good = KEYS["ES256"].pem()
-    for policy, more, place in (({"keys": keys}, {}, "/keys/0" if not isinstance(keys, bytes) else "/keys/0"), ({"keys": [good, keys]}, {}, "/keys/1"),
-                                ({"keys": {"keys": [good, good, keys]}}, {}, "/keys/keys/2"), ({}, {"keys": [good, keys]}, "/keys/1"),
-                                ({"keys": good, "binding": {"keys": keys}}, {}, "/binding/keys/0")):
+    for policy, more, place in (
+        ({"keys": keys}, {}, "/keys/0" if not isinstance(keys, bytes) else "/keys/0"),
+        ({"keys": [good, keys]}, {}, "/keys/1"),
+        ({"keys": {"keys": [good, good, keys]}}, {}, "/keys/keys/2"),
+        ({}, {"keys": [good, keys]}, "/keys/1"),
+        ({"keys": good, "binding": {"keys": keys}}, {}, "/binding/keys/0"),
+    ):
         with pytest.raises(ValueError) as caught:
             sdjwt.Policy({"algs": ["ES256"], **policy}, **more)
         assert str(caught.value).startswith(f"sdjwt: the key at {place} can't be read: ") and said in str(caught.value)
@@ -218,7 +292,13 @@ def test_keys_are_given_once():
 
 
 def test_keys_for_what_is_no_policy():
-    for text in ("", "[]", '{"algs":["ES256"],"skew":1.5}', '{"algs":["ES256"],"skew":NaN}', '{"algs":["ES256"],"other":1}'):
+    for text in (
+        "",
+        "[]",
+        '{"algs":["ES256"],"skew":1.5}',
+        '{"algs":["ES256"],"skew":NaN}',
+        '{"algs":["ES256"],"other":1}',
+    ):
         with pytest.raises(sdjwt.Unreadable):
             sdjwt.Policy(text, keys=KEYS["ES256"].pem())
         with pytest.raises(sdjwt.Unreadable):
@@ -259,7 +339,11 @@ def test_the_function_is_given_the_issuer_and_the_header():
         asked.clear()
 
 
-@each("payload, iss", [({}, None), ({"iss": 7}, None), ({"iss": None}, None), ({"iss": ["a"]}, None), ({"iss": ""}, "")], ids=str)
+@each(
+    "payload, iss",
+    [({}, None), ({"iss": 7}, None), ({"iss": None}, None), ({"iss": ["a"]}, None), ({"iss": ""}, "")],
+    ids=str,
+)
 def test_an_issuer_that_is_no_text(payload, iss):
     asked = []
     policy = sdjwt.Policy({"algs": ["ES256"]}, keys=lambda *given: asked.append(given) or KEYS["ES256"].pem())
@@ -267,8 +351,18 @@ def test_an_issuer_that_is_no_text(payload, iss):
     assert asked == [(iss, {"alg": "ES256"})]
 
 
-@each("token", ["", "a.b.c~", "a", signed(KEYS["ES256"], {"alg": "none"}, {}) + "~", signed(KEYS["ES256"], {"alg": "ES256", "crit": []}, {}) + "~",
-                signed(KEYS["ES256"], {"alg": "ES384"}, {}) + "~"], ids=range(6))
+@each(
+    "token",
+    [
+        "",
+        "a.b.c~",
+        "a",
+        signed(KEYS["ES256"], {"alg": "none"}, {}) + "~",
+        signed(KEYS["ES256"], {"alg": "ES256", "crit": []}, {}) + "~",
+        signed(KEYS["ES256"], {"alg": "ES384"}, {}) + "~",
+    ],
+    ids=range(6),
+)
 def test_the_function_is_not_asked_of_what_is_refused_before(token):
     def keys(iss, header):
         raise AssertionError("it is asked")
@@ -307,16 +401,28 @@ def test_an_x5c():
     policy = sdjwt.Policy({"algs": ["ES256"]}, keys=keys)
     header = {"alg": "ES256", "x5c": [base64.b64encode(made.public_bytes(Encoding.DER)).decode()]}
     assert policy.verify(signed(KEYS["ES256"], header, {"a": 1}) + "~") == {"a": 1}
-    other = {"alg": "ES256", "x5c": [base64.b64encode(certificate(Key("ES256", 4)).public_bytes(Encoding.DER)).decode()]}
+    other = {
+        "alg": "ES256",
+        "x5c": [base64.b64encode(certificate(Key("ES256", 4)).public_bytes(Encoding.DER)).decode()],
+    }
     with pytest.raises(sdjwt.UnknownKey):
         policy.verify(signed(Key("ES256", 4), other, {"a": 1}) + "~")
 
 
 def test_a_shared_key_of_an_issuer():
-    policy = sdjwt.Policy({"algs": ["HS256", "ES256"]}, keys=lambda iss, header: {"kty": "oct", "k": SHARED} if iss == "tickets" else KEYS["ES256"].pem())
+    policy = sdjwt.Policy(
+        {"algs": ["HS256", "ES256"]},
+        keys=lambda iss, header: {"kty": "oct", "k": SHARED} if iss == "tickets" else KEYS["ES256"].pem(),
+    )
     assert policy.verify(sdjwt.issue({**ORDER, "key": SHARED})) == CLAIMS
     # never is a public key taken for a shared one
-    confused = signed(type("", (), {"sign": staticmethod(lambda text: __import__("hmac").digest(KEYS["ES256"].pem(), text, "sha256"))}), {"alg": "HS256"}, {})
+    confused = signed(
+        type(
+            "", (), {"sign": staticmethod(lambda text: __import__("hmac").digest(KEYS["ES256"].pem(), text, "sha256"))}
+        ),
+        {"alg": "HS256"},
+        {},
+    )
     with pytest.raises(sdjwt.UnknownKey):
         policy.verify(confused + "~")
 
@@ -331,7 +437,9 @@ def test_a_function_returns_keys_or_none(answer):
 @each("answer", [None, [], (), {"keys": []}, [None], ["x"], [{"kty": "EC"}], Key("EdDSA").pem(), iter(())], ids=str)
 def test_no_key_that_fits_is_an_unknown_key(answer):
     with pytest.raises(sdjwt.UnknownKey):
-        sdjwt.Policy({"algs": ["ES256"]}, keys=lambda iss, header: answer).verify(sdjwt.issue(ORDER, sign=KEYS["ES256"].pair))
+        sdjwt.Policy({"algs": ["ES256"]}, keys=lambda iss, header: answer).verify(
+            sdjwt.issue(ORDER, sign=KEYS["ES256"].pair)
+        )
 
 
 def test_what_the_function_raises_comes_out():
@@ -346,7 +454,9 @@ def test_what_the_function_raises_comes_out():
 
 def test_where_it_has_no_key_check_is_asked():
     asked = []
-    policy = sdjwt.Policy({"algs": ["ES256"]}, keys=lambda iss, header: None, check=lambda question: asked.append(question) or True)
+    policy = sdjwt.Policy(
+        {"algs": ["ES256"]}, keys=lambda iss, header: None, check=lambda question: asked.append(question) or True
+    )
     token = sdjwt.issue(ORDER, sign=KEYS["ES256"].pair)
     assert policy.verify(token) == CLAIMS
     question, = asked
@@ -357,8 +467,14 @@ def test_a_question_about_a_holder():
     holder, asked = Key("ES256", 5), []
     token = sdjwt.issue({"payload": {"iss": "tickets", "cnf": {"jwk": holder.jwk()}}}, sign=KEYS["ES256"].pair)
     shown = bound(token, holder, {"alg": "ES256K", "typ": "kb+jwt"}, {"aud": "door", "nonce": "1", "iat": 1000})
-    policy = sdjwt.Policy({"algs": ["ES256"], "binding": {"algs": ["ES256K"], "aud": "door", "nonce": "1", "max_age": 60, "keys": {"keys": []}}},
-                          keys=lambda iss, header: KEYS["ES256"].pem(), check=lambda question: asked.append(question) or True)
+    policy = sdjwt.Policy(
+        {
+            "algs": ["ES256"],
+            "binding": {"algs": ["ES256K"], "aud": "door", "nonce": "1", "max_age": 60, "keys": {"keys": []}},
+        },
+        keys=lambda iss, header: KEYS["ES256"].pem(),
+        check=lambda question: asked.append(question) or True,
+    )
     assert policy.verify(shown, now=1000)["iss"] == "tickets"
     question, = asked
     assert question.asks == "holder" and question.header == {"alg": "ES256K", "typ": "kb+jwt"} and question.iss is None
@@ -370,8 +486,11 @@ def test_a_question_about_a_holder():
 @each("make", [lambda policy: pickle.loads(pickle.dumps(policy)), copy.copy, copy.deepcopy])
 def test_a_policy_pickles_and_copies(make):
     token = sdjwt.issue(ORDER, sign=KEYS["ES256"].pair)
-    for policy in (sdjwt.Policy({"keys": KEYS["ES256"].pair.public_key(), "algs": ["ES256"]}), sdjwt.Policy({"algs": ["ES256"]}, keys=found_keys),
-                   sdjwt.Policy({"keys": {"keys": []}, "algs": ["ES256"]}, check=always)):
+    for policy in (
+        sdjwt.Policy({"keys": KEYS["ES256"].pair.public_key(), "algs": ["ES256"]}),
+        sdjwt.Policy({"algs": ["ES256"]}, keys=found_keys),
+        sdjwt.Policy({"keys": {"keys": []}, "algs": ["ES256"]}, check=always),
+    ):
         again = make(policy)
         assert again is not policy and again._handles is not policy._handles
         assert again.verify(token) == policy.verify(token) == CLAIMS
@@ -392,7 +511,12 @@ def always(question):
 @each("alg", ALGS)
 def test_public_jwk_of_each_form(alg):
     due = KEYS[alg].jwk()
-    for form in (*private_forms(KEYS[alg]), KEYS[alg].pem(), KEYS[alg].pair.public_key(), KEYS[alg].jwk(use="sig", kid="x", alg=alg)):
+    for form in (
+        *private_forms(KEYS[alg]),
+        KEYS[alg].pem(),
+        KEYS[alg].pair.public_key(),
+        KEYS[alg].jwk(use="sig", kid="x", alg=alg),
+    ):
         made = sdjwt.public_jwk(form)
         assert made == due
         assert sdjwt.public_jwk(form, kid="mine") == {**due, "kid": "mine"}
@@ -401,18 +525,38 @@ def test_public_jwk_of_each_form(alg):
 
 def test_a_thumbprint_is_that_of_the_rfcs():
     """RFC 7638 section 3.1 and RFC 8037 appendix A.3."""
-    n = ("0vx7agoebGcQSuuPiLJXZptN9nndrQmbXEps2aiAFbWhM78LhWx4cbbfAAtVT86zwu1RK7aPFFxuhDR1L6tSoc_BJECPebWKRXjBZCiFV4n3oknjhMstn64tZ_2W-5JsGY4Hc5n9yBXArwl93l"
-         "qt7_RN5w6Cf0h4QyQ5v-65YGjQR0_FDW2QvzqY368QQMicAtaSqzs8KJZgnYb9c7d0zgdAZHzu6qMQvRL5hajrn1n91CbOpbISD08qNLyrdkt-bFTWhAI4vMQFh6WeZu0fM4lFd2NcRwr3XPksIN"
-         "HaQ-G_xBniIqbw0Ls1jF44-csFCur-kEgU8awapJzKnqDKgw")
-    assert sdjwt.public_jwk({"kty": "RSA", "n": n, "e": "AQAB", "alg": "RS256", "kid": "2011-04-29"}, kid=True)["kid"] == \
-        "NzbLsXh8uDCcd-6MNwXF4W_7noWXFZAfHkxZsRGC9Xs"
+    n = (
+        "0vx7agoebGcQSuuPiLJXZptN9nndrQmbXEps2aiAFbWhM78LhWx4cbbfAAtVT86zwu1RK7aPF"
+        "FxuhDR1L6tSoc_BJECPebWKRXjBZCiFV4n3oknjhMstn64tZ_2W-5JsGY4Hc5n9yBXArwl93l"
+        "qt7_RN5w6Cf0h4QyQ5v-65YGjQR0_FDW2QvzqY368QQMicAtaSqzs8KJZgnYb9c7d0zgdAZHzu"
+        "6qMQvRL5hajrn1n91CbOpbISD08qNLyrdkt-bFTWhAI4vMQFh6WeZu0fM4lFd2NcRwr3XPksIN"
+        "HaQ-G_xBniIqbw0Ls1jF44-csFCur-kEgU8awapJzKnqDKgw"
+    )
+    assert (
+        sdjwt.public_jwk({"kty": "RSA", "n": n, "e": "AQAB", "alg": "RS256", "kid": "2011-04-29"}, kid=True)["kid"]
+        == "NzbLsXh8uDCcd-6MNwXF4W_7noWXFZAfHkxZsRGC9Xs"
+    )
     curve = {"kty": "OKP", "crv": "Ed25519", "x": "11qYAYKxCrfVS_7TyWQHOg7hcvPapiMlrwIaaPcHURo"}
     assert sdjwt.public_jwk(curve, kid=True)["kid"] == "kPrK_qmxVWaYVA9wwBF6Iuo3vVzz7TxHCTwXBygrS4k"
 
 
-@each("key, kind", [(5, TypeError), (None, TypeError), ("no key", TypeError), (object(), TypeError), ([KEYS["ES256"].pem()], TypeError),
-                    ({}, ValueError), ({"kty": "oct", "k": SHARED}, ValueError), ({"kty": "EC", "crv": "P-256", "x": "AA", "y": "AA"}, ValueError),
-                    ({"kty": 5}, ValueError), (KEYS["ES256"].pem() * 2, ValueError), (b"-----BEGIN PUBLIC KEY-----", ValueError)], ids=lambda it: "")
+@each(
+    "key, kind",
+    [
+        (5, TypeError),
+        (None, TypeError),
+        ("no key", TypeError),
+        (object(), TypeError),
+        ([KEYS["ES256"].pem()], TypeError),
+        ({}, ValueError),
+        ({"kty": "oct", "k": SHARED}, ValueError),
+        ({"kty": "EC", "crv": "P-256", "x": "AA", "y": "AA"}, ValueError),
+        ({"kty": 5}, ValueError),
+        (KEYS["ES256"].pem() * 2, ValueError),
+        (b"-----BEGIN PUBLIC KEY-----", ValueError),
+    ],
+    ids=lambda it: "",
+)
 def test_what_has_no_public_key(key, kind):
     with pytest.raises(kind, match="sdjwt: key") as caught:
         sdjwt.public_jwk(key)
@@ -443,7 +587,9 @@ def test_without_cryptography_the_library_does_as_before(monkeypatch):
 
 def test_a_public_key_of_a_holder_goes_into_cnf():
     holder = Key("EdDSA", 2)
-    token = sdjwt.issue({"payload": {"cnf": {"jwk": sdjwt.public_jwk(holder.private_pem())}}}, sign=KEYS["ES256"].private_pem())
+    token = sdjwt.issue(
+        {"payload": {"cnf": {"jwk": sdjwt.public_jwk(holder.private_pem())}}}, sign=KEYS["ES256"].private_pem()
+    )
     assert sdjwt.show(token)["payload"]["cnf"]["jwk"] == holder.jwk()
     pem = holder.pair.public_key().public_bytes(Encoding.PEM, PublicFormat.SubjectPublicKeyInfo)
     assert sdjwt.public_jwk(pem) == holder.jwk()

@@ -1,4 +1,6 @@
-"""Shared and public keys in one policy: the four mixtures of issuer and holder, and the list of the holders' algorithms."""
+"""Shared and public keys in one policy: the four mixtures of issuer and holder, and the list of the holders'
+algorithms.
+"""
 import base64
 import builtins
 import sys
@@ -43,7 +45,9 @@ def holder_of(alg):
 def presented(issuer, holder, cnf=None, **header):
     """A token with a key binding token of the holder, who is called ada or has the key that stands in the token."""
     confirmed = cnf or ({"jwk": holder.jwk()} if isinstance(holder, Key) else {"kid": "ada"})
-    token = disclosed(lambda payload: signed(issuer, {"alg": issuer.alg, "kid": "office"}, payload), {"cnf": confirmed}, seat="B12")
+    token = disclosed(
+        lambda payload: signed(issuer, {"alg": issuer.alg, "kid": "office"}, payload), {"cnf": confirmed}, seat="B12"
+    )
     return bound(token, holder, {"alg": holder.alg, "typ": "kb+jwt", **header}, CLAIMS)
 
 
@@ -53,7 +57,10 @@ def policy_of(usual, issuers, holders=(), /, **binding):
 
 
 # Keys of both kinds, of the issuer and of the holder.
-BOTH = ([Shared(OFFICE, "").jwk(kid="office"), PUBLIC_OFFICE.jwk(kid="office")], [Shared(ADA, "").jwk(kid="ada"), PUBLIC_ADA.jwk(kid="ada")])
+BOTH = (
+    [Shared(OFFICE, "").jwk(kid="office"), PUBLIC_OFFICE.jwk(kid="office")],
+    [Shared(ADA, "").jwk(kid="ada"), PUBLIC_ADA.jwk(kid="ada")],
+)
 
 
 def told(policy, token, **more):
@@ -66,7 +73,11 @@ def told(policy, token, **more):
 
     read = sdjwt.Policy(policy, **more)
     first = line(lambda: read.verify(token, NOW))
-    assert line(lambda: read.verify(sdjwt.convert("flat", token), NOW)) == line(lambda: sdjwt.verify(policy, token, NOW, **more)) == first
+    assert (
+        line(lambda: read.verify(sdjwt.convert("flat", token), NOW))
+        == line(lambda: sdjwt.verify(policy, token, NOW, **more))
+        == first
+    )
     return first
 
 
@@ -78,8 +89,14 @@ def test_the_holder_signs_by_an_algorithm_of_the_list_and_no_other(issuer, alg):
     issuer, holder = issuer_of(issuer), holder_of(alg)
     token = presented(issuer, holder)
     others = [name for name in (*SHARED, "ES256", "ES384", "EdDSA", "none", "", "HS", "hs256") if name != alg]
-    for algs, due in (([alg], "B12"), ([*others, alg], "B12"), (others, "refused 29 bindingAlg"), (others[:1], "refused 29 bindingAlg"),
-                      (["EdDSA"], "refused 29 bindingAlg"), ([], "refused 29 bindingAlg")):
+    for algs, due in (
+        ([alg], "B12"),
+        ([*others, alg], "B12"),
+        (others, "refused 29 bindingAlg"),
+        (others[:1], "refused 29 bindingAlg"),
+        (["EdDSA"], "refused 29 bindingAlg"),
+        ([], "refused 29 bindingAlg"),
+    ):
         # the list of the policy is not looked at, whether it has the algorithm or not
         for usual in ([issuer.alg], [issuer.alg, alg], [*others, issuer.alg, alg]):
             assert told(policy_of(usual, *BOTH, algs=algs), token) == due, (algs, usual)
@@ -128,7 +145,15 @@ def test_a_signature_of_another_length_is_bad(alg):
     whole = issuer.sign(text.encode())
     policy = sdjwt.Policy({"keys": {"keys": BOTH[0]}, "algs": [*SHARED, "EdDSA"]})
     assert policy.verify(f"{text}.{encoded(whole)}~") == {"seat": "B12"}
-    for other in (whole[:-1], whole + b"\0", whole[:16], b"\0", bytes(len(whole)), whole[::-1], bytes([whole[0] ^ 1]) + whole[1:]):
+    for other in (
+        whole[:-1],
+        whole + b"\0",
+        whole[:16],
+        b"\0",
+        bytes(len(whole)),
+        whole[::-1],
+        bytes([whole[0] ^ 1]) + whole[1:],
+    ):
         with pytest.raises(sdjwt.Refused) as caught:
             policy.verify(f"{text}.{encoded(other)}~")
         assert caught.value.line == "refused 10 badSignature"
@@ -142,7 +167,9 @@ def test_the_first_key_that_is_long_enough_and_has_the_name():
     policy = sdjwt.Policy({"keys": {"keys": keys}, "algs": ["HS256", "HS384", "ES384"]})
     shared = sdjwt.Policy({"keys": {"keys": keys[1:]}, "algs": ["HS256", "HS384"]})
     assert policy._asking is not None and shared._asking is None
-    for key, alg, kid in ((key, alg, kid) for key in (short, long, other) for alg in ("HS256", "HS384") for kid in ("a", "b", "c", None)):
+    for key, alg, kid in (
+        (key, alg, kid) for key in (short, long, other) for alg in ("HS256", "HS384") for kid in ("a", "b", "c", None)
+    ):
         header = {"alg": alg, **({} if kid is None else {"kid": kid})}
         token = signed(Shared(key.secret, alg), header, {"seat": 1}) + "~"
         said = []
@@ -153,30 +180,63 @@ def test_the_first_key_that_is_long_enough_and_has_the_name():
                 said.append(refused.line)
         assert said[0] == said[1], (alg, kid)
         first = {"HS256": short, "HS384": long}[alg] if kid in ("a", None) else other if kid == "b" else None
-        assert said[0] == ("refused 9 issuerKeyUnknown" if first is None else {"seat": 1} if key is first else "refused 10 badSignature")
+        assert said[0] == (
+            "refused 9 issuerKeyUnknown"
+            if first is None
+            else {"seat": 1}
+            if key is first
+            else "refused 10 badSignature"
+        )
 
 
-@each("said", [{"use": "enc"}, {"key_ops": ["sign"]}, {"key_ops": []}, {"alg": "HS384"}, {"alg": "ES256"}, {"alg": None}], ids=repr)
+@each(
+    "said",
+    [{"use": "enc"}, {"key_ops": ["sign"]}, {"key_ops": []}, {"alg": "HS384"}, {"alg": "ES256"}, {"alg": None}],
+    ids=repr,
+)
 def test_a_shared_key_that_says_another_use_is_not_taken(said):
     issuer = Shared(OFFICE, "HS256")
     token = presented(issuer, Shared(ADA, "HS256"))
-    for where, issuers, holders, due in (("keys", {**BOTH[0][0], **said}, BOTH[1][0], "refused 9 issuerKeyUnknown"),
-                                         ("binding", BOTH[0][0], {**BOTH[1][0], **said}, "refused 27 holderKeyUnknown")):
+    for where, issuers, holders, due in (
+        ("keys", {**BOTH[0][0], **said}, BOTH[1][0], "refused 9 issuerKeyUnknown"),
+        ("binding", BOTH[0][0], {**BOTH[1][0], **said}, "refused 27 holderKeyUnknown"),
+    ):
         policy = policy_of(["HS256", "ES256"], [issuers, BOTH[0][1]], [holders, BOTH[1][1]], algs=["HS256"])
         assert told(policy, token) == due
         # by HS384 it would be taken
         skipped = [(key.where, key.index) for key in sdjwt.Policy(policy).skipped_keys]
         assert skipped == ([] if said == {"alg": "HS384"} else [(where, 0)])
     fits = {"use": "sig", "key_ops": ["sign", "verify"], "alg": "HS256"}
-    assert told(policy_of(["HS256", "ES256"], [issuer.jwk(kid="office", **fits)], [{**BOTH[1][0], **fits}], algs=["HS256"]), token) == "B12"
+    assert (
+        told(
+            policy_of(["HS256", "ES256"], [issuer.jwk(kid="office", **fits)], [{**BOTH[1][0], **fits}], algs=["HS256"]),
+            token,
+        )
+        == "B12"
+    )
 
 
 def test_a_shared_key_serves_no_public_algorithm_and_a_public_key_no_shared_one():
     raw = base64.urlsafe_b64decode(PUBLIC_OFFICE.jwk()["x"] + "==")
-    assert told(policy_of(["HS256", "EdDSA"], [PUBLIC_OFFICE.jwk(kid="office")]), presented(Shared(raw, "HS256"), PUBLIC_ADA)) == "refused 9 issuerKeyUnknown"
+    assert (
+        told(
+            policy_of(["HS256", "EdDSA"], [PUBLIC_OFFICE.jwk(kid="office")]),
+            presented(Shared(raw, "HS256"), PUBLIC_ADA),
+        )
+        == "refused 9 issuerKeyUnknown"
+    )
     token = presented(PUBLIC_OFFICE, Shared(raw, "HS256"), {"kid": "ada"})
-    assert told(policy_of(["HS256", "EdDSA"], [PUBLIC_OFFICE.jwk(kid="office")], [PUBLIC_OFFICE.jwk(kid="ada")]), token) == "refused 27 holderKeyUnknown"
-    assert told(policy_of(["EdDSA"], [Shared(OFFICE, "").jwk(kid="office", alg="EdDSA"), Key("EdDSA", 6).jwk()]), presented(PUBLIC_OFFICE, PUBLIC_ADA)) == "refused 9 issuerKeyUnknown"
+    assert (
+        told(policy_of(["HS256", "EdDSA"], [PUBLIC_OFFICE.jwk(kid="office")], [PUBLIC_OFFICE.jwk(kid="ada")]), token)
+        == "refused 27 holderKeyUnknown"
+    )
+    assert (
+        told(
+            policy_of(["EdDSA"], [Shared(OFFICE, "").jwk(kid="office", alg="EdDSA"), Key("EdDSA", 6).jwk()]),
+            presented(PUBLIC_OFFICE, PUBLIC_ADA),
+        )
+        == "refused 9 issuerKeyUnknown"
+    )
 
 
 def test_a_secret_that_stands_in_the_token_is_no_key():
@@ -187,7 +247,10 @@ def test_a_secret_that_stands_in_the_token_is_no_key():
             for issuer in (issuer_of("shared"), PUBLIC_OFFICE):
                 policy = policy_of(["HS512", "EdDSA"], *BOTH, algs=["HS256", "ES256"])
                 assert told(policy, presented(issuer, holder, cnf)) == "refused 27 holderKeyUnknown"
-                assert told(policy, presented(issuer, holder, cnf), check=lambda question: True) == "refused 27 holderKeyUnknown"
+                assert (
+                    told(policy, presented(issuer, holder, cnf), check=lambda question: True)
+                    == "refused 27 holderKeyUnknown"
+                )
 
 
 def test_by_an_hmac_the_key_is_that_of_the_name_also_beside_a_public_one():
@@ -211,13 +274,17 @@ def test_a_function_is_asked_of_no_hmac(alg):
         return True
 
     asked, secret = [], PUBLIC_OFFICE.pem()
-    forged = f"{signed(PUBLIC_OFFICE, {'alg': alg}, {'seat': 'B12'}).rsplit('.', 1)[0]}.{encoded(mac(secret, 'HS256', b'text'))}~"
+    text = signed(PUBLIC_OFFICE, {'alg': alg}, {'seat': 'B12'}).rsplit('.', 1)[0]
+    forged = f"{text}.{encoded(mac(secret, 'HS256', b'text'))}~"
     policy = {"keys": {"keys": [PUBLIC_OFFICE.jwk()]}, "algs": [alg, "EdDSA"]}
     with pytest.raises(sdjwt.Refused) as caught:
         sdjwt.verify(policy, forged, check=check)
     assert caught.value.line == "refused 9 issuerKeyUnknown" and not asked
     token = presented(PUBLIC_OFFICE, PUBLIC_ADA, alg=alg)
-    assert told(policy_of([alg, "EdDSA"], [PUBLIC_OFFICE.jwk(kid="office")]), token, check=check) == "refused 27 holderKeyUnknown"
+    assert (
+        told(policy_of([alg, "EdDSA"], [PUBLIC_OFFICE.jwk(kid="office")]), token, check=check)
+        == "refused 27 holderKeyUnknown"
+    )
     assert not asked
     with pytest.raises(ValueError):
         sdjwt.Policy({"keys": {"keys": []}, "algs": [alg]}, check=check)
@@ -241,14 +308,20 @@ def test_the_set_of_holders_may_be_missing_where_they_have_public_keys():
         for policy in (policy_of([issuer.alg], BOTH[0], algs=["ES256"]), policy_of([issuer.alg, "ES256"], BOTH[0])):
             assert told(without_set(policy), token) == "B12"
     # where they have shared ones it is missed
-    for policy in (policy_of(["HS512"], BOTH[0]), policy_of(["HS512", "EdDSA"], BOTH[0], algs=["HS256"]), policy_of(["HS512"], BOTH[0][:1], algs=[])):
+    for policy in (
+        policy_of(["HS512"], BOTH[0]),
+        policy_of(["HS512", "EdDSA"], BOTH[0], algs=["HS256"]),
+        policy_of(["HS512"], BOTH[0][:1], algs=[]),
+    ):
         with pytest.raises(sdjwt.Unreadable) as caught:
             sdjwt.Policy(without_set(policy))
         assert caught.value.line == "unreadable 1 wrong binding" and '"keys" is missing' in caught.value.detail
     for wrong in ([], 5, None, {}, {"keys": 5}):
         with pytest.raises(sdjwt.Unreadable) as caught:
             sdjwt.Policy(policy_of(["HS512"], BOTH[0], algs=["ES256"], keys=wrong))
-        assert caught.value.line == "unreadable 1 wrong binding" and caught.value.detail.startswith("at /binding/keys: ")
+        assert caught.value.line == "unreadable 1 wrong binding" and caught.value.detail.startswith(
+            "at /binding/keys: "
+        )
 
 
 @each("algs", ["ES256", 1, None, {}, [1], [None], ["ES256", ["HS256"]]], ids=repr)
@@ -260,11 +333,24 @@ def test_a_list_of_holders_that_is_none(algs):
 
 
 def test_a_policy_of_shared_keys_alone_is_the_library_s():
-    for policy in (policy_of(["HS256"], BOTH[0][:1], BOTH[1][:1]), policy_of(["HS256"], *BOTH), {"keys": {"keys": BOTH[0][:1]}, "algs": ["HS256", "ES256"]}):
+    for policy in (
+        policy_of(["HS256"], BOTH[0][:1], BOTH[1][:1]),
+        policy_of(["HS256"], *BOTH),
+        {"keys": {"keys": BOTH[0][:1]}, "algs": ["HS256", "ES256"]},
+    ):
         assert sdjwt.Policy(policy)._asking is None
     # there holders sign by HS256, as in the program
-    assert told(policy_of(["HS512"], BOTH[0][:1], BOTH[1][:1]), presented(issuer_of("shared"), Shared(ADA, "HS256"))) == "B12"
-    assert told(policy_of(["HS512", "HS384"], BOTH[0][:1], BOTH[1][:1]), presented(issuer_of("shared"), Shared(ADA, "HS384"))) == "refused 29 bindingAlg"
+    assert (
+        told(policy_of(["HS512"], BOTH[0][:1], BOTH[1][:1]), presented(issuer_of("shared"), Shared(ADA, "HS256")))
+        == "B12"
+    )
+    assert (
+        told(
+            policy_of(["HS512", "HS384"], BOTH[0][:1], BOTH[1][:1]),
+            presented(issuer_of("shared"), Shared(ADA, "HS384")),
+        )
+        == "refused 29 bindingAlg"
+    )
 
 
 def test_without_cryptography_holders_with_public_keys_are_told_at_once(monkeypatch):
@@ -286,4 +372,6 @@ def test_without_cryptography_holders_with_public_keys_are_told_at_once(monkeypa
         sdjwt.Policy(policy, check=lambda question: None)
     # an HMAC needs none
     for alg in SHARED:
-        assert told(policy_of(["HS512"], *shared, algs=[alg]), presented(issuer_of("shared"), Shared(ADA, alg))) == "B12"
+        assert (
+            told(policy_of(["HS512"], *shared, algs=[alg]), presented(issuer_of("shared"), Shared(ADA, alg))) == "B12"
+        )

@@ -34,7 +34,9 @@ def mixed(policy):
 
 
 def is_listed_unknown(policy, by_library, found):
-    """Whether a list has the name of an algorithm that the library does not know, so that a key is looked for, and none is found."""
+    """Whether a list has the name of an algorithm that the library does not know, so that a key is looked for, and none
+    is found.
+    """
     others = set(policy.get("algs", [])) - {*KNOWN, "none", ""}
     return bool(others) and (by_library, found) == ("refused 7 algRefused", "refused 9 issuerKeyUnknown")
 
@@ -53,4 +55,6 @@ def test_the_same_verdicts(path, verified):  # noqa: F811
             policy = sdjwt.Policy(mixed(said))
             assert policy._asking is not None
             found = verdict(policy, token, now)
-            assert found == by_library or is_other_holder(by_library, found) or is_listed_unknown(said, by_library, found), vector["name"]
+            assert (
+                found == by_library or is_other_holder(by_library, found) or is_listed_unknown(said, by_library, found)
+            ), vector["name"]

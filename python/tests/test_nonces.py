@@ -115,12 +115,16 @@ def test_what_is_too_long_or_no_text(made, version):
     for text in ("n" * 257, "\u20ac" * 86):
         for given in ({"nonce": text}, {"nonce": "4711", "audience": text}):
             name = next(name for name, value in given.items() if value == text)
-            with pytest.raises(ValueError, match=f"sdjwt: {name} has {len(text.encode())} bytes, and may have 256") as caught:
+            with pytest.raises(
+                ValueError, match=f"sdjwt: {name} has {len(text.encode())} bytes, and may have 256"
+            ) as caught:
                 policy.verify(shown("4711"), now=NOW, **given)
             assert type(caught.value) is ValueError
     for wrong in (b"4711", 4711, True, ["4711"], {}, object()):
         for given in ({"nonce": wrong}, {"nonce": "4711", "audience": wrong}):
-            with pytest.raises(TypeError, match=f"{'audience' if len(given) == 2 else 'nonce'} is of type {type(wrong).__name__}"):
+            with pytest.raises(
+                TypeError, match=f"{'audience' if len(given) == 2 else 'nonce'} is of type {type(wrong).__name__}"
+            ):
                 policy.verify(shown("4711"), now=NOW, **given)
     with pytest.raises(ValueError, match="nonce has half of a surrogate pair"):
         policy.verify(shown("4711"), now=NOW, nonce="\ud800")
@@ -136,15 +140,27 @@ def test_a_policy_without_binding_takes_neither(more):
                 call(TOKEN, **given)
 
 
-@each("binding, said", [({"keys": HOLDERS}, '"max_age" is missing'), ({"keys": HOLDERS, "max_age": -1}, "/binding/max_age"),
-                        ({"keys": HOLDERS, "max_age": 1, "other": 2}, '"other"'), ({"keys": 1, "max_age": 1}, "/binding/keys"),
-                        ({"keys": HOLDERS, "max_age": 1, "nonce": None}, "/binding/nonce"), ({"keys": HOLDERS, "max_age": 1, "aud": 7}, "/binding/aud")])
+@each(
+    "binding, said",
+    [
+        ({"keys": HOLDERS}, '"max_age" is missing'),
+        ({"keys": HOLDERS, "max_age": -1}, "/binding/max_age"),
+        ({"keys": HOLDERS, "max_age": 1, "other": 2}, '"other"'),
+        ({"keys": 1, "max_age": 1}, "/binding/keys"),
+        ({"keys": HOLDERS, "max_age": 1, "nonce": None}, "/binding/nonce"),
+        ({"keys": HOLDERS, "max_age": 1, "aud": 7}, "/binding/aud"),
+    ],
+)
 def test_what_else_is_wrong_is_told_at_once(binding, said):
     for form in ({"keys": KEYS, "binding": binding}, json.dumps({"keys": KEYS, "binding": binding})):
         with pytest.raises(sdjwt.Unreadable) as caught:
             sdjwt.Policy(form)
         assert caught.value.line == "unreadable 1 wrong binding" and said in caught.value.detail
-    for line, text in (("notJson", '{"binding":{},"a":NaN}'), ("notWhole", '{"binding":{},"a":1.5}'), ("notWhole", '{"binding":{},"a":-0}')):
+    for line, text in (
+        ("notJson", '{"binding":{},"a":NaN}'),
+        ("notWhole", '{"binding":{},"a":1.5}'),
+        ("notWhole", '{"binding":{},"a":-0}'),
+    ):
         with pytest.raises(sdjwt.Unreadable) as caught:
             sdjwt.Policy(text)
         assert caught.value.line == f"unreadable 1 {line}" and caught.value.detail
@@ -154,11 +170,15 @@ def test_what_else_is_wrong_is_told_at_once(binding, said):
 def test_few_handles_are_kept(made):
     policy = sdjwt.Policy(made(aud=DOOR))
     for number in range(100):
-        assert verdict(policy.verify, shown("4711", f"door {number}"), nonce="4711", audience=f"door {number}") == CLAIMS
+        assert (
+            verdict(policy.verify, shown("4711", f"door {number}"), nonce="4711", audience=f"door {number}") == CLAIMS
+        )
         assert len(policy._lender._others) <= 8
     before = {id(handle) for _, handle in policy._lender._others}
     for number in (99, 98, 97):
-        assert verdict(policy.verify, shown("4711", f"door {number}"), nonce="4711", audience=f"door {number}") == CLAIMS
+        assert (
+            verdict(policy.verify, shown("4711", f"door {number}"), nonce="4711", audience=f"door {number}") == CLAIMS
+        )
     assert {id(handle) for _, handle in policy._lender._others} == before
 
 
@@ -177,7 +197,9 @@ def test_many_nonces_at_once_and_none_is_mixed(made):
             other = (which + 1 + turn % (threads - 1)) % threads
             for asked, due in ((which, True), (other, False)):
                 nonce, audience = texts[asked]
-                said = verdict(policy.verify, tokens[which], nonce=nonce, audience=None if audience == DOOR else audience)
+                said = verdict(
+                    policy.verify, tokens[which], nonce=nonce, audience=None if audience == DOOR else audience
+                )
                 if (said == CLAIMS) != due:
                     wrong.append((which, asked, said))
             if verdict(policy.verify, own) != CLAIMS or verdict(policy.verify, tokens[which]) == CLAIMS:
@@ -204,7 +226,10 @@ def test_a_function_that_is_asked_calls_the_same_policy_with_another_nonce():
     for nonce in ("outer", *(f"n{number}" for number in range(20))):
         order["binding"]["nonce"] = nonce
         tokens[nonce] = sdjwt.present(order, token, NOW, check=lambda question: True, sign=lambda text: b"signed")
-    policy = sdjwt.Policy({"algs": ["X1"], "keys": {"keys": []}, "binding": {"aud": DOOR, "max_age": 300, "keys": {"keys": []}}}, check=check)
+    policy = sdjwt.Policy(
+        {"algs": ["X1"], "keys": {"keys": []}, "binding": {"aud": DOOR, "max_age": 300, "keys": {"keys": []}}},
+        check=check,
+    )
     assert policy.verify(tokens["outer"], now=NOW, nonce="outer") == CLAIMS
     with pytest.raises(sdjwt.NonceDiffers):
         policy.verify(tokens["outer"], now=NOW, nonce="n0")

@@ -44,12 +44,20 @@ def joserfc_peer():
     jws = pytest.importorskip("joserfc.jws")
     jwk = pytest.importorskip("joserfc.jwk")
     key = jwk.OctKey.import_key(KEY)
-    return (lambda jwt: jws.deserialize_compact(jwt, key).payload), (lambda header, payload: jws.serialize_compact(header, payload, key))
+    return (lambda jwt: jws.deserialize_compact(jwt, key).payload), (
+        lambda header, payload: jws.serialize_compact(header, payload, key)
+    )
 
 
 # those that SDJWT_PEERS names, where it does
-PEERS = pytest.mark.parametrize("peer", [
-    peer for name, peer in (("jwcrypto", jwcrypto_peer), ("joserfc", joserfc_peer)) if name in os.environ.get("SDJWT_PEERS", name)])
+PEERS = pytest.mark.parametrize(
+    "peer",
+    [
+        peer
+        for name, peer in (("jwcrypto", jwcrypto_peer), ("joserfc", joserfc_peer))
+        if name in os.environ.get("SDJWT_PEERS", name)
+    ],
+)
 
 
 @PEERS

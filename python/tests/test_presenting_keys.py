@@ -1,4 +1,6 @@
-"""Tokens that are presented under public keys, with the holder's private key or a function: verified here and by others."""
+"""Tokens that are presented under public keys, with the holder's private key or a function: verified here and by
+others.
+"""
 import json
 
 import pytest
@@ -88,7 +90,13 @@ def test_without_a_binding_nothing_is_signed():
 
 def test_a_function_signs_just_the_bytes_of_the_binding():
     issuer, holder, asked = Key("ES256"), Key("ES256", 1), []
-    shown = sdjwt.present(order_of(issuer), issued(issuer, holder), NOW, sign=lambda text: asked.append(text) or holder.sign(text), alg="ES256")
+    shown = sdjwt.present(
+        order_of(issuer),
+        issued(issuer, holder),
+        NOW,
+        sign=lambda text: asked.append(text) or holder.sign(text),
+        alg="ES256",
+    )
     assert asked == [shown.split("~")[-1].rsplit(".", 1)[0].encode()]
     assert door_of(issuer, "ES256").verify(shown, NOW)["seat"] == "B12"
 
@@ -136,7 +144,10 @@ def test_nothing_is_signed_of_what_is_refused():
 
 def test_a_presentation_may_be_too_long_with_its_signature():
     issuer = Key("EdDSA")
-    assert line(sdjwt.present, order_of(issuer), issued(issuer, issuer), sign=lambda text: bytes(12_600_000), alg="X1") == "refused 75 presentTooLong"
+    assert (
+        line(sdjwt.present, order_of(issuer), issued(issuer, issuer), sign=lambda text: bytes(12_600_000), alg="X1")
+        == "refused 75 presentTooLong"
+    )
 
 
 def test_by_an_hmac_it_is_the_presentation_that_the_library_makes():
@@ -147,7 +158,11 @@ def test_by_an_hmac_it_is_the_presentation_that_the_library_makes():
     shared = sdjwt.issue({"payload": payload, "hide": ["/seat"], "key": text}, bytes(32))
     public = sdjwt.issue({"payload": payload, "hide": ["/seat"]}, bytes(32), sign=issuer.pair)
     assert shared.split("~")[1:] == public.split("~")[1:]
-    order = {"keys": {"keys": [{"kty": "oct", "k": text}]}, "want": ["/seat"], "binding": {"key": text, "kid": "ada", **BINDING}}
+    order = {
+        "keys": {"keys": [{"kty": "oct", "k": text}]},
+        "want": ["/seat"],
+        "binding": {"key": text, "kid": "ada", **BINDING},
+    }
     by_library = sdjwt.present(order, shared, NOW)
     apart = sdjwt.present(order_of(issuer, binding={"kid": "ada", **BINDING}), public, NOW, sign=mac, alg="HS256")
     head, body, _ = by_library.split("~")[-1].split(".")
@@ -158,13 +173,24 @@ def test_by_an_hmac_it_is_the_presentation_that_the_library_makes():
 
 # ---- orders and arguments that are none
 
-@each("more, reason, said", [
-    ({"binding": {**BINDING, "key": "k"}}, "wrong binding", '"key"'), ({"binding": {"aud": AUD}}, "wrong binding", '"nonce" is missing'),
-    ({"binding": {**BINDING, "kid": 1}}, "wrong binding", "/binding/kid"), ({"binding": []}, "wrong binding", "a list"),
-    ({"algs": "ES256"}, "wrong algs", "/algs"), ({"want": ["seat"]}, "wrong want", "/want/0"), ({"never": 1}, "wrong never", "/never"),
-    ({"iss": "office"}, "unknown", '"iss"'), ({"keys": []}, "wrong keys", "/keys"), ({"keys": {"keys": [{}]}}, "wrong keys", '"kty"'),
-    ({"keys": {"keys": [{"kty": "EC", "crv": "P-256", "x": "AA", "y": "AA"}]}}, "wrong keys", "/keys/keys/0"), ({"want": [1.5]}, "notWhole", ""),
-], ids=str)
+@each(
+    "more, reason, said",
+    [
+        ({"binding": {**BINDING, "key": "k"}}, "wrong binding", '"key"'),
+        ({"binding": {"aud": AUD}}, "wrong binding", '"nonce" is missing'),
+        ({"binding": {**BINDING, "kid": 1}}, "wrong binding", "/binding/kid"),
+        ({"binding": []}, "wrong binding", "a list"),
+        ({"algs": "ES256"}, "wrong algs", "/algs"),
+        ({"want": ["seat"]}, "wrong want", "/want/0"),
+        ({"never": 1}, "wrong never", "/never"),
+        ({"iss": "office"}, "unknown", '"iss"'),
+        ({"keys": []}, "wrong keys", "/keys"),
+        ({"keys": {"keys": [{}]}}, "wrong keys", '"kty"'),
+        ({"keys": {"keys": [{"kty": "EC", "crv": "P-256", "x": "AA", "y": "AA"}]}}, "wrong keys", "/keys/keys/0"),
+        ({"want": [1.5]}, "notWhole", ""),
+    ],
+    ids=str,
+)
 def test_an_order_that_is_none(more, reason, said):
     issuer = Key("ES256")
     with pytest.raises(sdjwt.Unreadable) as caught:
@@ -176,16 +202,24 @@ def test_a_member_that_is_not_there():
     order = order_of(Key("ES256"))
     for name in ("keys", "algs"):
         with pytest.raises(sdjwt.Unreadable) as caught:
-            sdjwt.present({member: value for member, value in order.items() if member != name}, "", NOW, sign=never, alg="ES256")
+            sdjwt.present(
+                {member: value for member, value in order.items() if member != name}, "", NOW, sign=never, alg="ES256"
+            )
         assert caught.value.reason == f"missing {name}" and caught.value.detail
 
 
 def test_who_signs_has_to_be_told():
     issuer = Key("ES256")
     token = issued(issuer, issuer)
-    for named, said in (({}, "sign is missing"), ({"sign": never}, "alg is missing"), ({"alg": "ES256"}, "without sign"),
-                        ({"sign": never, "alg": ""}, "alg"), ({"sign": never, "alg": "none"}, "alg"), ({"sign": issuer.pair, "alg": "ES384"}, "alg"),
-                        ({"sign": lambda text: b"", "alg": "X1"}, "no bytes")):
+    for named, said in (
+        ({}, "sign is missing"),
+        ({"sign": never}, "alg is missing"),
+        ({"alg": "ES256"}, "without sign"),
+        ({"sign": never, "alg": ""}, "alg"),
+        ({"sign": never, "alg": "none"}, "alg"),
+        ({"sign": issuer.pair, "alg": "ES384"}, "alg"),
+        ({"sign": lambda text: b"", "alg": "X1"}, "no bytes"),
+    ):
         with pytest.raises(ValueError) as caught:
             sdjwt.present(order_of(issuer), token, NOW, **named)
         assert said in str(caught.value) and not isinstance(caught.value, sdjwt.SdJwtError)
@@ -217,7 +251,10 @@ def test_shared_keys_present_as_ever():
 def test_an_order_may_be_a_text_too():
     issuer, holder = Key("ES256"), Key("EdDSA", 1)
     token, text = issued(issuer, holder), json.dumps(order_of(issuer))
-    shown = {sdjwt.present(order, token, NOW, sign=holder.pair) for order in (json.loads(text), text, text.encode(), bytearray(text.encode()))}
+    shown = {
+        sdjwt.present(order, token, NOW, sign=holder.pair)
+        for order in (json.loads(text), text, text.encode(), bytearray(text.encode()))
+    }
     assert len(shown) == 1
     for broken in ("{", "[]", "\u007b" * 200):
         with pytest.raises(sdjwt.Unreadable):

@@ -1,4 +1,5 @@
-"""Private and secret keys where a public one is wanted: refused in an order, and named by a warning in a set of keys."""
+"""Private and secret keys where a public one is wanted: refused in an order, and named by a warning in a set of keys.
+"""
 import json
 import pickle
 import sys
@@ -63,7 +64,12 @@ def test_whatever_the_type_of_the_key(jwk):
 def test_an_order_that_is_a_text_with_names_written_by_escapes():
     order = order_of({**Key("ES256").jwk(), "d": SECRET}, key=SECRET)
     plain = json.dumps(order)
-    escaped = plain.replace('"cnf"', '"\\u0063n\\u0066"').replace('"jwk"', '"j\\u0077k"').replace('"d"', '"\\u0064"').replace('"payload"', '"p\\u0061yload"')
+    escaped = (
+        plain.replace('"cnf"', '"\\u0063n\\u0066"')
+        .replace('"jwk"', '"j\\u0077k"')
+        .replace('"d"', '"\\u0064"')
+        .replace('"payload"', '"p\\u0061yload"')
+    )
     assert escaped != plain and json.loads(escaped) == order
     for text in (plain, escaped, plain.replace('"d"', '"\\u0064"'), plain.replace('"cnf"', '"\\u0063nf"')):
         for given in (text, text.encode(), bytearray(text.encode()), memoryview(text.encode())):
@@ -84,7 +90,12 @@ def test_of_two_members_with_one_name_the_last_counts():
 
 def test_a_key_of_jwcrypto_is_taken_where_it_is_public_and_refused_where_it_is_not():
     jwk = pytest.importorskip("jwcrypto.jwk")
-    for made in ({"kty": "EC", "crv": "P-256"}, {"kty": "OKP", "crv": "Ed25519"}, {"kty": "RSA", "size": 2048}, {"kty": "oct", "size": 256}):
+    for made in (
+        {"kty": "EC", "crv": "P-256"},
+        {"kty": "OKP", "crv": "Ed25519"},
+        {"kty": "RSA", "size": 2048},
+        {"kty": "oct", "size": 256},
+    ):
         pair = jwk.JWK.generate(**made)
         for call in ways(order_of(pair)):
             assert refused(call, "k" if made["kty"] == "oct" else "d")
@@ -98,20 +109,53 @@ def test_a_key_of_jwcrypto_is_taken_where_it_is_public_and_refused_where_it_is_n
 def test_what_is_no_key_of_a_holder_is_no_matter():
     """RFC 7800 has `cnf` at the top of the payload, and a key in its member `jwk`."""
     jwk = {"kty": "oct", "k": SECRET, "d": 1}
-    for payload in ({"jwk": jwk}, {"a": {"cnf": {"jwk": jwk}}}, {"cnf": {"a": {"jwk": jwk}}}, {"cnf": {"kid": "d", "k": 1, "d": 1}}, {"cnf": {"jwk": "d"}}, {"cnf": {"jwk": ["d", "k"]}},
-                    {"cnf": "jwk"}, {"cnf": None}, {"cnf": {"jwk": None}}, {"cnf": {"jwk": {"D": 1, "K": 1, "kid": "d", "key_ops": ["d"]}}}, {"d": 1, "k": 2}):
-        assert sdjwt.verify({"keys": {"keys": [{"kty": "oct", "k": SECRET}]}}, sdjwt.issue({"payload": payload, "key": SECRET})) == payload
+    for payload in (
+        {"jwk": jwk},
+        {"a": {"cnf": {"jwk": jwk}}},
+        {"cnf": {"a": {"jwk": jwk}}},
+        {"cnf": {"kid": "d", "k": 1, "d": 1}},
+        {"cnf": {"jwk": "d"}},
+        {"cnf": {"jwk": ["d", "k"]}},
+        {"cnf": "jwk"},
+        {"cnf": None},
+        {"cnf": {"jwk": None}},
+        {"cnf": {"jwk": {"D": 1, "K": 1, "kid": "d", "key_ops": ["d"]}}},
+        {"d": 1, "k": 2},
+    ):
+        assert (
+            sdjwt.verify(
+                {"keys": {"keys": [{"kty": "oct", "k": SECRET}]}}, sdjwt.issue({"payload": payload, "key": SECRET})
+            )
+            == payload
+        )
 
 
-@each("text", ["", "{", "[]", "1", '"cnf"', '{"cnf":', '{"payload": {"cnf": {"jwk": {"d": 1}}}', '{"payload": {"cnf": {"jwk": {"d": 1.5}}}, "key": 1,}', '\ufeff{"cnf": 1}',
-                '{"payload": {"cnf": {"jwk": {"d": 1}}, "n": ' + "9" * 5000 + '}, "key": "' + SECRET + '"}', '{"payload": {"cnf": {"jwk": {"d": 1}}, "n": "\n"}}'], ids=lambda text: text[:30] or "-")
+@each(
+    "text",
+    [
+        "",
+        "{",
+        "[]",
+        "1",
+        '"cnf"',
+        '{"cnf":',
+        '{"payload": {"cnf": {"jwk": {"d": 1}}}',
+        '{"payload": {"cnf": {"jwk": {"d": 1.5}}}, "key": 1,}',
+        '\ufeff{"cnf": 1}',
+        '{"payload": {"cnf": {"jwk": {"d": 1}}, "n": ' + "9" * 5000 + '}, "key": "' + SECRET + '"}',
+        '{"payload": {"cnf": {"jwk": {"d": 1}}, "n": "\n"}}',
+    ],
+    ids=lambda text: text[:30] or "-",
+)
 def test_a_text_that_is_no_order_is_told_as_ever(text):
     with pytest.raises(sdjwt.Unreadable):
         sdjwt.issue(text)
 
 
 def test_an_order_that_nests_too_deep_issues_nothing():
-    deep = '{"payload": {"cnf": {"jwk": {"d": 1}}, "n": ' + "[" * 100_000 + "]" * 100_000 + '}, "key": "' + SECRET + '"}'
+    deep = (
+        '{"payload": {"cnf": {"jwk": {"d": 1}}, "n": ' + "[" * 100_000 + "]" * 100_000 + '}, "key": "' + SECRET + '"}'
+    )
     with pytest.raises(ValueError):
         sdjwt.issue(deep)
 
@@ -159,7 +203,10 @@ def test_a_private_key_in_a_policy_is_named_by_a_warning(alg):
               "binding": {"aud": "door", "nonce": "7", "max_age": 60, "keys": {"keys": [private(alg)]}}}
     for call in (lambda: sdjwt.Policy(policy), lambda: sdjwt.Policy(json.dumps(policy).replace('"d"', '"\\u0064"'))):
         said = told(call)
-        assert [str(warning.message).split(" of the policy")[0] for warning in said] == ["sdjwt: the key at /keys/keys/1", "sdjwt: the key at /binding/keys/keys/0"]
+        assert [str(warning.message).split(" of the policy")[0] for warning in said] == [
+            "sdjwt: the key at /keys/keys/1",
+            "sdjwt: the key at /binding/keys/keys/0",
+        ]
         # it is told of the line that called the package
         assert {warning.filename for warning in said} == {__file__}
     del policy["binding"]
@@ -182,7 +229,11 @@ def test_where_shared_keys_are_alone_a_private_key_is_named_too():
     shared = {"kty": "oct", "k": SECRET}
     token = sdjwt.issue({"payload": {"a": 1}, "key": SECRET})
     binding = {"aud": "door", "nonce": "7", "max_age": 60, "keys": {"keys": [shared, private("EdDSA")]}}
-    for policy, count in (({"keys": {"keys": [shared, private("ES256")]}}, 1), ({"keys": {"keys": [shared, {"kty": "X", "oth": 1}]}, "algs": ["HS256"]}, 1), ({"keys": {"keys": [shared]}, "binding": binding}, 1)):
+    for policy, count in (
+        ({"keys": {"keys": [shared, private("ES256")]}}, 1),
+        ({"keys": {"keys": [shared, {"kty": "X", "oth": 1}]}, "algs": ["HS256"]}, 1),
+        ({"keys": {"keys": [shared]}, "binding": binding}, 1),
+    ):
         assert len(told(lambda policy=policy: sdjwt.Policy(policy))) == count
     assert len(told(lambda: sdjwt.verify({"keys": {"keys": [shared, private("ES256")]}}, token))) == 1
 
@@ -194,12 +245,19 @@ def test_a_private_key_in_a_present_order_is_named_too():
     (said,) = told(lambda: sdjwt.present(order, token))
     assert "/keys/keys/0 of the present order" in str(said.message) and said.filename == __file__
     shared = sdjwt.issue({"payload": {"seat": "B12"}, "hide": ["/seat"], "key": SECRET})
-    assert len(told(lambda: sdjwt.present({"keys": {"keys": [{"kty": "oct", "k": SECRET}, private("ES256")]}}, shared))) == 1
+    assert (
+        len(told(lambda: sdjwt.present({"keys": {"keys": [{"kty": "oct", "k": SECRET}, private("ES256")]}}, shared)))
+        == 1
+    )
 
 
 def test_public_and_shared_keys_are_named_by_no_warning():
     shared = {"kty": "oct", "k": SECRET, "d": "no member of its type"}
-    for policy in ({"keys": {"keys": [shared, Key("ES256").jwk()]}}, {"keys": {"keys": [shared, Key("ES256").jwk(), Key("PS256").jwk()]}, "algs": ["ES256"]}, {"keys": {"keys": [5, None, "d"]}, "algs": ["HS256"], "require": ["d"]}):
+    for policy in (
+        {"keys": {"keys": [shared, Key("ES256").jwk()]}},
+        {"keys": {"keys": [shared, Key("ES256").jwk(), Key("PS256").jwk()]}, "algs": ["ES256"]},
+        {"keys": {"keys": [5, None, "d"]}, "algs": ["HS256"], "require": ["d"]},
+    ):
         try:
             assert not told(lambda policy=policy: sdjwt.Policy(policy))
         except sdjwt.Unreadable:
@@ -212,7 +270,10 @@ def test_the_warning_can_be_filtered_and_made_an_error():
         warnings.simplefilter("error")
         with pytest.raises(sdjwt.PrivateKeyWarning) as caught:
             sdjwt.Policy(policy)
-        assert issubclass(sdjwt.PrivateKeyWarning, UserWarning) and pickle.loads(pickle.dumps(caught.value)).args == caught.value.args
+        assert (
+            issubclass(sdjwt.PrivateKeyWarning, UserWarning)
+            and pickle.loads(pickle.dumps(caught.value)).args == caught.value.args
+        )
         warnings.simplefilter("ignore", sdjwt.PrivateKeyWarning)
         sdjwt.Policy(policy)
         # also where the package itself begins the stack

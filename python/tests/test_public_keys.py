@@ -1,4 +1,5 @@
-"""Policies with public keys: the presentation of RFC 9901, JWKs and what they say of themselves, holders, and attacks."""
+"""Policies with public keys: the presentation of RFC 9901, JWKs and what they say of themselves, holders, and attacks.
+"""
 import base64
 import builtins
 import hashlib
@@ -21,8 +22,13 @@ PRESENTED = (RFC / "presented.txt").read_text().strip()
 CLAIMS = json.loads((RFC / "claims.json").read_text())
 KEYS = json.loads((RFC / "issuer_keys.json").read_text())
 MADE = 1_748_537_244
-POLICY = {"version": 2, "keys": KEYS, "algs": ["ES256"], "typ": "example+sd-jwt",
-          "binding": {"aud": ["https://verifier.example.org"], "nonce": "1234567890", "max_age": 300, "keys": {"keys": []}}}
+POLICY = {
+    "version": 2,
+    "keys": KEYS,
+    "algs": ["ES256"],
+    "typ": "example+sd-jwt",
+    "binding": {"aud": ["https://verifier.example.org"], "nonce": "1234567890", "max_age": 300, "keys": {"keys": []}},
+}
 each = pytest.mark.parametrize
 
 
@@ -74,7 +80,10 @@ def test_one_letter_changed_anywhere_is_refused_by_the_condition_that_it_breaks(
         assert caught.value.number in BROKEN[kind], (at, caught.value.line)
 
 
-@each("part", [{"keys": {"keys": []}}, {"keys": {"keys": [{**KEYS["keys"][0], "kid": "no key of the RFC", "use": "enc"}]}}])
+@each(
+    "part",
+    [{"keys": {"keys": []}}, {"keys": {"keys": [{**KEYS["keys"][0], "kid": "no key of the RFC", "use": "enc"}]}}],
+)
 def test_without_the_key_of_the_rfc(part):
     assert refusal({**POLICY, **part}, PRESENTED, MADE) in ("refused 7 algRefused", "refused 9 issuerKeyUnknown")
 
@@ -82,7 +91,10 @@ def test_without_the_key_of_the_rfc(part):
 def test_moments_and_wishes_are_judged_as_ever():
     assert refusal(POLICY, PRESENTED, MADE + 301) == "refused 33 bindingStale"
     assert refusal({**POLICY, "require": ["email"]}, PRESENTED, MADE) == "refused 23 claimMissing at 0"
-    assert refusal({**POLICY, "binding": {**POLICY["binding"], "nonce": "1"}}, PRESENTED, MADE) == "refused 35 nonceDiffers"
+    assert (
+        refusal({**POLICY, "binding": {**POLICY["binding"], "nonce": "1"}}, PRESENTED, MADE)
+        == "refused 35 nonceDiffers"
+    )
     assert refusal({**POLICY, "typ": "another"}, PRESENTED, MADE) == "refused 8 typeRefused"
 
 
@@ -109,8 +121,16 @@ def test_a_signature_of_another_length_is_bad(alg):
     policy = sdjwt.Policy({"keys": {"keys": [key.jwk()]}, "algs": [alg]})
     assert policy.verify(jwt + "~") == {"a": 1}
     half = len(content) // 2
-    for other in (content[:-1], content + b"\0", b"\0" + content, b"\0", bytes(len(content)), content[half:] + content[:half], b"\xff" * len(content),
-                  content[:half] + b"\0" + content[half:]):
+    for other in (
+        content[:-1],
+        content + b"\0",
+        b"\0" + content,
+        b"\0",
+        bytes(len(content)),
+        content[half:] + content[:half],
+        b"\xff" * len(content),
+        content[:half] + b"\0" + content[half:],
+    ):
         with pytest.raises(sdjwt.Refused) as caught:
             policy.verify(f"{text}.{encoded(other)}~")
         assert caught.value.name == "badSignature"
@@ -123,9 +143,28 @@ def test_a_signature_in_der_is_none():
     assert refusal({"keys": {"keys": [key.jwk()]}, "algs": ["ES256"]}, token) == "refused 10 badSignature"
 
 
-@each("said", [{"alg": "ES384"}, {"alg": "HS256"}, {"alg": ""}, {"alg": None}, {"alg": ["ES256"]}, {"use": "enc"}, {"use": None}, {"use": ["sig"]},
-               {"key_ops": ["sign"]}, {"key_ops": []}, {"key_ops": "verify"}, {"key_ops": None}, {"kid": "other"}, {"crv": "secp256k1"}, {"crv": ["P-256"]},
-               {"kty": "EC2"}], ids=repr)
+@each(
+    "said",
+    [
+        {"alg": "ES384"},
+        {"alg": "HS256"},
+        {"alg": ""},
+        {"alg": None},
+        {"alg": ["ES256"]},
+        {"use": "enc"},
+        {"use": None},
+        {"use": ["sig"]},
+        {"key_ops": ["sign"]},
+        {"key_ops": []},
+        {"key_ops": "verify"},
+        {"key_ops": None},
+        {"kid": "other"},
+        {"crv": "secp256k1"},
+        {"crv": ["P-256"]},
+        {"kty": "EC2"},
+    ],
+    ids=repr,
+)
 def test_a_key_that_says_another_use_is_not_taken(said):
     key = Key("ES256")
     token = signed(key, {"alg": "ES256", "kid": "a"}, {"a": 1}) + "~"
@@ -134,17 +173,31 @@ def test_a_key_that_says_another_use_is_not_taken(said):
         # of a type that is not known, and no other key is left
         with pytest.raises(sdjwt.Unreadable) as caught:
             sdjwt.Policy(policy)
-        assert caught.value.line == "unreadable 1 wrong keys" and caught.value.detail.startswith(f"at /keys/keys/0: its {list(said)[0]} is not one of ")
+        assert caught.value.line == "unreadable 1 wrong keys" and caught.value.detail.startswith(
+            f"at /keys/keys/0: its {list(said)[0]} is not one of "
+        )
         policy["keys"]["keys"].append(key.jwk(kid="b"))
     assert refusal(policy, token) == "refused 9 issuerKeyUnknown"
-    second = {**policy, "keys": {"keys": [*policy["keys"]["keys"], key.jwk(kid="a", alg="ES256", use="sig", key_ops=["sign", "verify"])]}}
+    second = {
+        **policy,
+        "keys": {
+            "keys": [*policy["keys"]["keys"], key.jwk(kid="a", alg="ES256", use="sig", key_ops=["sign", "verify"])]
+        },
+    }
     assert sdjwt.Policy(second).verify(token) == {"a": 1}
 
 
 def test_the_first_key_of_the_name_is_taken_and_of_no_name_the_first():
     one, two = Key("ES256"), Key("ES256", 1)
     policy = {"keys": {"keys": [one.jwk(kid="a"), two.jwk(kid="b"), two.jwk(kid="a")]}, "algs": ["ES256"]}
-    for key, kid, line in ((one, "a", None), (two, "b", None), (one, None, None), (two, "a", "badSignature"), (two, None, "badSignature"), (one, "c", "issuerKeyUnknown")):
+    for key, kid, line in (
+        (one, "a", None),
+        (two, "b", None),
+        (one, None, None),
+        (two, "a", "badSignature"),
+        (two, None, "badSignature"),
+        (one, "c", "issuerKeyUnknown"),
+    ):
         header = {"alg": "ES256"} if kid is None else {"alg": "ES256", "kid": kid}
         token = signed(key, header, {"a": 1}) + "~"
         if line is None:
@@ -153,12 +206,25 @@ def test_the_first_key_of_the_name_is_taken_and_of_no_name_the_first():
             assert refusal(policy, token).endswith(line)
 
 
-@each("alg, said, why", [
-    ("ES256", {"x": "AAAA"}, "x has not just 32 bytes"), ("ES256", {"y": encoded(bytes(32))}, "no point of P-256"), ("ES256", {"x": 1}, "x is no base64url"),
-    ("ES256", {"x": None}, "x is no base64url"), ("ES256", {"x": "A" * 44}, "x has"), ("ES256", {"x": "A" * 42 + "B"}, "x has bits"),
-    ("ES256", {"x": "="}, "x is no base64url"), ("ES256", {"kid": 1}, "kid is no text"), ("ES512", {"x": encoded(bytes(65))}, "x has not just 66 bytes"),
-    ("EdDSA", {"x": encoded(bytes(31))}, "x has not just 32 bytes"), ("PS256", {"n": "AQ"}, "n has fewer than 2048 bits"),
-    ("RS256", {"e": ""}, "e is no base64url"), ("RS256", {"e": "AA"}, "no key of RSA"), ("RS256", {"n": encoded(b"\x80" + bytes(200))}, "n has fewer")])
+@each(
+    "alg, said, why",
+    [
+        ("ES256", {"x": "AAAA"}, "x has not just 32 bytes"),
+        ("ES256", {"y": encoded(bytes(32))}, "no point of P-256"),
+        ("ES256", {"x": 1}, "x is no base64url"),
+        ("ES256", {"x": None}, "x is no base64url"),
+        ("ES256", {"x": "A" * 44}, "x has"),
+        ("ES256", {"x": "A" * 42 + "B"}, "x has bits"),
+        ("ES256", {"x": "="}, "x is no base64url"),
+        ("ES256", {"kid": 1}, "kid is no text"),
+        ("ES512", {"x": encoded(bytes(65))}, "x has not just 66 bytes"),
+        ("EdDSA", {"x": encoded(bytes(31))}, "x has not just 32 bytes"),
+        ("PS256", {"n": "AQ"}, "n has fewer than 2048 bits"),
+        ("RS256", {"e": ""}, "e is no base64url"),
+        ("RS256", {"e": "AA"}, "no key of RSA"),
+        ("RS256", {"n": encoded(b"\x80" + bytes(200))}, "n has fewer"),
+    ],
+)
 def test_a_key_that_is_none_is_told_at_once_with_its_place(alg, said, why):
     bad = {"keys": {"keys": [Key("ES384").jwk(), {**Key(alg).jwk(), **said}]}}
     with pytest.raises(sdjwt.Unreadable) as caught:
@@ -168,18 +234,33 @@ def test_a_key_that_is_none_is_told_at_once_with_its_place(alg, said, why):
     binding = {"aud": "door", "nonce": "1", "max_age": 60, **bad}
     with pytest.raises(sdjwt.Unreadable) as caught:
         sdjwt.Policy({"keys": {"keys": [Key("ES256").jwk()]}, "algs": ["ES256"], "binding": binding})
-    assert caught.value.line == "unreadable 1 wrong binding" and caught.value.detail.startswith("at /binding/keys/keys/1: ")
+    assert caught.value.line == "unreadable 1 wrong binding" and caught.value.detail.startswith(
+        "at /binding/keys/keys/1: "
+    )
     # where no algorithm of it is taken it is read over, as it always was
     sdjwt.Policy({**bad, "algs": ["HS256"]})
     sdjwt.Policy(bad)
 
 
-@each("policy", [{"algs": ["ES256"]}, {"keys": KEYS, "algs": ["ES256"], "skew": -1}, {"keys": KEYS, "algs": ["ES256"], "other": 1},
-                 {"keys": KEYS, "algs": ["ES256"], "binding": {}}, {"keys": KEYS, "algs": ["ES256"], "binding": []}, {"keys": KEYS, "algs": ["ES256", 1]},
-                 {"keys": KEYS, "algs": ["ES256"], "binding": {**POLICY["binding"], "algs": ["ES256"], "other": 1}},
-                 {**POLICY, "binding": {**POLICY["binding"], "algs": "ES256"}}, {**POLICY, "binding": {**POLICY["binding"], "algs": [1]}},
-                 {**POLICY, "binding": {**POLICY["binding"], "algs": None}}, '{"keys": {"keys": []}, "algs": ["ES256"]', b'\xff{"algs"', '{"algs": ' + "[" * 2000],
-      ids=lambda policy: str(policy)[:40])
+@each(
+    "policy",
+    [
+        {"algs": ["ES256"]},
+        {"keys": KEYS, "algs": ["ES256"], "skew": -1},
+        {"keys": KEYS, "algs": ["ES256"], "other": 1},
+        {"keys": KEYS, "algs": ["ES256"], "binding": {}},
+        {"keys": KEYS, "algs": ["ES256"], "binding": []},
+        {"keys": KEYS, "algs": ["ES256", 1]},
+        {"keys": KEYS, "algs": ["ES256"], "binding": {**POLICY["binding"], "algs": ["ES256"], "other": 1}},
+        {**POLICY, "binding": {**POLICY["binding"], "algs": "ES256"}},
+        {**POLICY, "binding": {**POLICY["binding"], "algs": [1]}},
+        {**POLICY, "binding": {**POLICY["binding"], "algs": None}},
+        '{"keys": {"keys": []}, "algs": ["ES256"]',
+        b'\xff{"algs"',
+        '{"algs": ' + "[" * 2000,
+    ],
+    ids=lambda policy: str(policy)[:40],
+)
 def test_a_policy_that_is_none_is_told_at_once(policy):
     for check in (None, lambda question: True):
         with pytest.raises((sdjwt.Unreadable, ValueError)):
@@ -188,7 +269,9 @@ def test_a_policy_that_is_none_is_told_at_once(policy):
 
 @each("number", ["-0", "1e2", "1.0", "18446744073709551616"])
 def test_numbers_are_judged_by_the_library_as_they_stand(number):
-    policy = json.dumps({**POLICY, "binding": {**POLICY["binding"], "algs": ["ES256"]}, "skew": 7}).replace('"skew": 7', f'"skew": {number}')
+    policy = json.dumps({**POLICY, "binding": {**POLICY["binding"], "algs": ["ES256"]}, "skew": 7}).replace(
+        '"skew": 7', f'"skew": {number}'
+    )
     with pytest.raises(sdjwt.Unreadable) as caught:
         sdjwt.Policy(policy)
     assert caught.value.line == "unreadable 1 notWhole"
@@ -200,9 +283,23 @@ def holding(confirmed, key, header=None, alg="ES256", **claims):
     """A token with a claim `cnf`, and a key binding token for the door."""
     issuer = Key("EdDSA", 5)
     token = disclosed(lambda payload: signed(issuer, {"alg": "EdDSA"}, payload), {"cnf": confirmed}, seat="B12")
-    policy = {"keys": {"keys": [issuer.jwk()]}, "algs": ["EdDSA"],
-              "binding": {"aud": "door", "nonce": "7", "max_age": 60, "keys": {"keys": []}, "algs": ["ES256", "ES384", "PS256"]}}
-    return policy, bound(token, key, {"alg": alg, "typ": "kb+jwt", **(header or {})}, {"aud": "door", "nonce": "7", "iat": 1000, **claims})
+    policy = {
+        "keys": {"keys": [issuer.jwk()]},
+        "algs": ["EdDSA"],
+        "binding": {
+            "aud": "door",
+            "nonce": "7",
+            "max_age": 60,
+            "keys": {"keys": []},
+            "algs": ["ES256", "ES384", "PS256"],
+        },
+    }
+    return policy, bound(
+        token,
+        key,
+        {"alg": alg, "typ": "kb+jwt", **(header or {})},
+        {"aud": "door", "nonce": "7", "iat": 1000, **claims},
+    )
 
 
 def test_the_key_of_a_holder_is_in_the_token():
@@ -217,14 +314,34 @@ def test_the_key_of_a_holder_is_in_the_token():
 def test_the_key_of_a_holder_is_named():
     key = Key("ES256", 1)
     policy, token = holding({"kid": "ada"}, key)
-    policy["binding"]["keys"]["keys"] = [Key("ES256", 2).jwk(kid="eve"), Key("ES384").jwk(kid="ada"), key.jwk(kid="ada")]
+    policy["binding"]["keys"]["keys"] = [
+        Key("ES256", 2).jwk(kid="eve"),
+        Key("ES384").jwk(kid="ada"),
+        key.jwk(kid="ada"),
+    ]
     assert sdjwt.Policy(policy).verify(token, 1010) == {"cnf": {"kid": "ada"}, "seat": "B12"}
     policy["binding"]["keys"]["keys"] = [Key("ES256", 2).jwk(kid="eve"), key.jwk()]
     assert refusal(policy, token, 1010) == "refused 27 holderKeyUnknown"
 
 
-@each("confirmed", [1, None, {}, {"jwk": 1}, {"jwk": {}}, {"kid": 1}, {"x5t#S256": "a"}, {"jwk": {"kty": "oct", "k": "A" * 43}}, {"jwk": {"kty": "EC", "crv": "P-256"}},
-                    {"jwk": {**Key("ES256", 1).jwk(), "use": "enc"}}, {"jwk": Key("ES384").jwk()}, {"jwk": {**Key("ES256", 1).jwk(), "y": encoded(bytes(32))}}], ids=repr)
+@each(
+    "confirmed",
+    [
+        1,
+        None,
+        {},
+        {"jwk": 1},
+        {"jwk": {}},
+        {"kid": 1},
+        {"x5t#S256": "a"},
+        {"jwk": {"kty": "oct", "k": "A" * 43}},
+        {"jwk": {"kty": "EC", "crv": "P-256"}},
+        {"jwk": {**Key("ES256", 1).jwk(), "use": "enc"}},
+        {"jwk": Key("ES384").jwk()},
+        {"jwk": {**Key("ES256", 1).jwk(), "y": encoded(bytes(32))}},
+    ],
+    ids=repr,
+)
 def test_a_holder_without_a_key(confirmed):
     policy, token = holding(confirmed, Key("ES256", 1))
     policy["binding"]["keys"]["keys"] = [Key("ES256", 1).jwk()]
@@ -234,7 +351,12 @@ def test_a_holder_without_a_key(confirmed):
 def test_algorithms_of_holders():
     key = Key("ES256", 1)
     policy, token = holding({"jwk": key.jwk()}, key)
-    for algs, line in ((["ES256"], None), (["ES384"], "refused 29 bindingAlg"), ([], "refused 29 bindingAlg"), (["none", "HS256"], "refused 29 bindingAlg")):
+    for algs, line in (
+        (["ES256"], None),
+        (["ES384"], "refused 29 bindingAlg"),
+        ([], "refused 29 bindingAlg"),
+        (["none", "HS256"], "refused 29 bindingAlg"),
+    ):
         policy["binding"]["algs"] = algs
         if line is None:
             assert sdjwt.Policy(policy).verify(token, 1010)["seat"] == "B12"
@@ -253,8 +375,12 @@ def test_keys_of_both_kinds_in_one_policy():
     policy = sdjwt.Policy({"keys": {"keys": [shared, public.jwk(kid="p")]}, "algs": ["ES256", "HS256"]})
     assert policy.verify(sdjwt.issue({"payload": {"a": 1}, "key": shared["k"], "kid": "s"})) == {"a": 1}
     assert policy.verify(signed(public, {"alg": "ES256", "kid": "p"}, {"a": 2}) + "~") == {"a": 2}
-    for token, name in ((sdjwt.issue({"payload": {}, "key": encoded(bytes(40)), "kid": "s"}), "badSignature"), (sdjwt.issue({"payload": {}, "key": shared["k"], "kid": "p"}), "issuerKeyUnknown"),
-                        (signed(Key("ES384"), {"alg": "ES384"}, {}) + "~", "algRefused"), ("a.b.c~", "headerUnreadable")):
+    for token, name in (
+        (sdjwt.issue({"payload": {}, "key": encoded(bytes(40)), "kid": "s"}), "badSignature"),
+        (sdjwt.issue({"payload": {}, "key": shared["k"], "kid": "p"}), "issuerKeyUnknown"),
+        (signed(Key("ES384"), {"alg": "ES384"}, {}) + "~", "algRefused"),
+        ("a.b.c~", "headerUnreadable"),
+    ):
         with pytest.raises(sdjwt.Refused) as caught:
             policy.verify(token)
         assert caught.value.name == name
@@ -283,12 +409,23 @@ def hs256(secret, header, payload):
 @each("alg", ["ES256", "EdDSA", "RS256"])
 def test_a_public_key_is_no_shared_one(alg):
     key = Key(alg)
-    secrets = [key.pem(), key.pem().strip(), json.dumps(key.jwk()).encode(), base64.urlsafe_b64decode(key.jwk().get("x", key.jwk().get("n")) + "==")]
+    secrets = [
+        key.pem(),
+        key.pem().strip(),
+        json.dumps(key.jwk()).encode(),
+        base64.urlsafe_b64decode(key.jwk().get("x", key.jwk().get("n")) + "=="),
+    ]
     for algs in ([alg], [alg, "HS256"], [alg, "HS256", "HS384", "none", ""]):
         for secret in secrets:
-            assert refusal({"keys": {"keys": [key.jwk()]}, "algs": algs}, hs256(secret, {"alg": "HS256"}, {"a": 1}) + "~") in ("refused 7 algRefused", "refused 9 issuerKeyUnknown")
+            assert refusal(
+                {"keys": {"keys": [key.jwk()]}, "algs": algs}, hs256(secret, {"alg": "HS256"}, {"a": 1}) + "~"
+            ) in ("refused 7 algRefused", "refused 9 issuerKeyUnknown")
             with pytest.raises(sdjwt.Refused):
-                sdjwt.verify({"keys": {"keys": [key.jwk()]}, "algs": algs}, hs256(secret, {"alg": "HS256"}, {"a": 1}) + "~", check=lambda question: True)
+                sdjwt.verify(
+                    {"keys": {"keys": [key.jwk()]}, "algs": algs},
+                    hs256(secret, {"alg": "HS256"}, {"a": 1}) + "~",
+                    check=lambda question: True,
+                )
 
 
 @each("alg", ["none", "None", "NONE", "", "HS256", "hs256", "ES256K", "es256", "RS256", "ES256 ", "Ed25519"])
@@ -304,8 +441,14 @@ def test_no_other_algorithm_under_the_key_of_the_policy(alg):
 def test_a_key_in_the_header_is_not_taken():
     evil = Key("ES256", 9)
     policy = {"keys": {"keys": [Key("ES256").jwk(kid="a")]}, "algs": ["ES256"]}
-    for header, name in (({"jwk": evil.jwk()}, "badSignature"), ({"jwk": evil.jwk(), "kid": "b"}, "issuerKeyUnknown"), ({"jku": "https://evil.example/keys", "kid": "b"}, "issuerKeyUnknown"),
-                         ({"x5c": ["MIIB"], "kid": "a"}, "badSignature"), ({"x5u": "https://evil.example/x"}, "badSignature"), ({"crit": ["jwk"], "jwk": evil.jwk()}, "headerCritical")):
+    for header, name in (
+        ({"jwk": evil.jwk()}, "badSignature"),
+        ({"jwk": evil.jwk(), "kid": "b"}, "issuerKeyUnknown"),
+        ({"jku": "https://evil.example/keys", "kid": "b"}, "issuerKeyUnknown"),
+        ({"x5c": ["MIIB"], "kid": "a"}, "badSignature"),
+        ({"x5u": "https://evil.example/x"}, "badSignature"),
+        ({"crit": ["jwk"], "jwk": evil.jwk()}, "headerCritical"),
+    ):
         token = signed(evil, {"alg": "ES256", **header}, {"a": 1}) + "~"
         assert refusal(policy, token).endswith(name)
     policy, token = holding({"jwk": Key("ES256", 1).jwk()}, evil, {"jwk": evil.jwk()})
@@ -337,12 +480,18 @@ def test_a_function_is_asked_where_no_key_is_here():
     jwt = signed(key, {"alg": "of an HSM", "kid": "good", "typ": "t"}, {"a": 1})
     assert policy.verify(jwt + "~") == {"a": 1}
     text, signature = jwt.rsplit(".", 1)
-    assert asked == [sdjwt.Question("issuer", "of an HSM", "good", "t", text.encode(), base64.urlsafe_b64decode(signature + "=="), None)]
+    assert asked == [
+        sdjwt.Question(
+            "issuer", "of an HSM", "good", "t", text.encode(), base64.urlsafe_b64decode(signature + "=="), None
+        )
+    ]
     for kid, name in (("bad", "badSignature"), ("other", "issuerKeyUnknown")):
         with pytest.raises(sdjwt.Refused) as caught:
             policy.verify(signed(key, {"alg": "of an HSM", "kid": kid}, {"a": 1}) + "~")
         assert caught.value.name == name
-    assert sdjwt.verify({"keys": {"keys": []}, "algs": ["x"]}, signed(key, {"alg": "x"}, {"a": 1}) + "~", check=lambda question: True) == {"a": 1}
+    assert sdjwt.verify(
+        {"keys": {"keys": []}, "algs": ["x"]}, signed(key, {"alg": "x"}, {"a": 1}) + "~", check=lambda question: True
+    ) == {"a": 1}
 
 
 def test_a_function_is_asked_about_holders():
@@ -356,7 +505,9 @@ def test_a_function_is_asked_about_holders():
             with pytest.raises(sdjwt.Refused) as caught:
                 read.verify(token, 1010)
             assert caught.value.line == line
-    assert {(question.asks, question.alg, question.kid, question.typ, question.payload["seat"]) for question in asked} == {("holder", "ES256", "k", "kb+jwt", "B12")}
+    assert {
+        (question.asks, question.alg, question.kid, question.typ, question.payload["seat"]) for question in asked
+    } == {("holder", "ES256", "k", "kb+jwt", "B12")}
 
 
 @each("answer", [1, 0, "yes", "", [], object()], ids=repr)

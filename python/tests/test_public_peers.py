@@ -1,4 +1,6 @@
-"""Public keys against implementations that others wrote: what they sign is accepted, and they accept what is accepted here."""
+"""Public keys against implementations that others wrote: what they sign is accepted, and they accept what is accepted
+here.
+"""
 import json
 import os
 
@@ -49,8 +51,14 @@ def joserfc_peer(key):
 
 
 # those that SDJWT_PEERS names, where it does
-PEERS = pytest.mark.parametrize("peer", [
-    peer for name, peer in (("jwcrypto", jwcrypto_peer), ("joserfc", joserfc_peer)) if name in os.environ.get("SDJWT_PEERS", name)])
+PEERS = pytest.mark.parametrize(
+    "peer",
+    [
+        peer
+        for name, peer in (("jwcrypto", jwcrypto_peer), ("joserfc", joserfc_peer))
+        if name in os.environ.get("SDJWT_PEERS", name)
+    ],
+)
 each = pytest.mark.parametrize
 
 

@@ -37,7 +37,12 @@ def test_a_signature_has_the_length_of_its_algorithm(alg):
                 with pytest.raises(ValueError) as caught:
                     call(kind(length))
                 said = str(caught.value)
-                assert "sign" in said and alg in said and f"returned {length} bytes" in said and all(str(due) in said for due in LENGTHS[alg])
+                assert (
+                    "sign" in said
+                    and alg in said
+                    and f"returned {length} bytes" in said
+                    and all(str(due) in said for due in LENGTHS[alg])
+                )
 
 
 @each("alg", ["ES256", "ES384", "ES512"])
@@ -63,8 +68,17 @@ def test_an_algorithm_in_a_present_order_that_is_no_text(alg):
         raise AssertionError("it is not asked")
 
     token = sdjwt.issue(ORDER, sign=KEY.pair)
-    for more in ({"sign": never, "alg": "ES256"}, {"sign": never}, {"sign": KEY.pair}, {"sign": KEY.pair, "alg": "ES256"}):
+    for more in (
+        {"sign": never, "alg": "ES256"},
+        {"sign": never},
+        {"sign": KEY.pair},
+        {"sign": KEY.pair, "alg": "ES256"},
+    ):
         for check in (None, lambda question: True):
             with pytest.raises(ValueError) as caught:
                 sdjwt.present(asked(alg=alg), token, check=check, **more)
-            assert isinstance(caught.value, sdjwt.Unreadable) and caught.value.line == "unreadable 1 wrong binding" and "at /binding/alg: " in caught.value.detail
+            assert (
+                isinstance(caught.value, sdjwt.Unreadable)
+                and caught.value.line == "unreadable 1 wrong binding"
+                and "at /binding/alg: " in caught.value.detail
+            )

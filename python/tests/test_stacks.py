@@ -1,4 +1,7 @@
-"""Threads with little stack: a call is refused, and the process goes on. What is tested runs in a process of its own."""
+"""Threads with little stack: a call is refused, and the process goes on.
+
+What is tested runs in a process of its own.
+"""
 import resource
 import subprocess
 import sys
@@ -16,7 +19,9 @@ each = pytest.mark.parametrize
 
 def ran(*words, **more):
     """The lines that a run of the script prints. It has to end as it should."""
-    run = subprocess.run([sys.executable, SCRIPT, *words], stdout=subprocess.PIPE, stderr=subprocess.PIPE, text=True, check=False, **more)
+    run = subprocess.run(
+        [sys.executable, SCRIPT, *words], stdout=subprocess.PIPE, stderr=subprocess.PIPE, text=True, check=False, **more
+    )
     assert (run.returncode, run.stderr) == (0, "")
     return run.stdout.splitlines()
 
@@ -45,7 +50,9 @@ def test_the_main_thread_has_what_its_limit_says(kib, word):
 
 @each("kib", [544, 1536])
 def test_what_counts_is_what_is_left(kib):
-    """Where a recursion has taken all but what a call needs, the deepest inputs are answered, and one level below it none is."""
+    """Where a recursion has taken all but what a call needs, the deepest inputs are answered, and one level below it
+    none is.
+    """
     line, = ran("deep", str(kib))
     levels, _, calls, _, refused, _ = line.replace(",", "").split()
     assert int(levels) > (kib - 540) // 10 and int(calls) > 3000 and refused == "0"

@@ -18,7 +18,16 @@ MOST = 2**25
 FORMS = ("compact", "flat", "general")
 
 
-COUNTS = {"issue": (2,), "present": (2,), "verify": (2,), "convert": (2,), "show": (1,), "split": (1,), "audit": (2,), "wallet": range(2, 66)}
+COUNTS = {
+    "issue": (2,),
+    "present": (2,),
+    "verify": (2,),
+    "convert": (2,),
+    "show": (1,),
+    "split": (1,),
+    "audit": (2,),
+    "wallet": range(2, 66),
+}
 
 
 def lines_of(parts):

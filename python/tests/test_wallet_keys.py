@@ -50,18 +50,28 @@ def test_it_chooses_as_with_shared_keys():
     count = 0
     for _ in range(60):
         names = drawn.sample("abcdef", 4)
-        payloads = [{name: drawn.choice([1, "x", True, None]) for name in drawn.sample(names, drawn.randint(1, 4))} for _ in range(4)]
+        payloads = [
+            {name: drawn.choice([1, "x", True, None]) for name in drawn.sample(names, drawn.randint(1, 4))}
+            for _ in range(4)
+        ]
         hides = [[f"/{name}" for name in payload if drawn.random() < 0.7] for payload in payloads]
-        said = {"want": [f"/{name}" for name in drawn.sample(names, drawn.randint(0, 2))],
-                "equal": [{"at": f"/{name}", "value": drawn.choice([1, "x", True, None])} for name in drawn.sample(names, drawn.randint(0, 1))],
-                "never": [f"/{name}" for name in drawn.sample(names, drawn.randint(0, 1))]}
+        said = {
+            "want": [f"/{name}" for name in drawn.sample(names, drawn.randint(0, 2))],
+            "equal": [
+                {"at": f"/{name}", "value": drawn.choice([1, "x", True, None])}
+                for name in drawn.sample(names, drawn.randint(0, 1))
+            ],
+            "never": [f"/{name}" for name in drawn.sample(names, drawn.randint(0, 1))],
+        }
         found = []
         for algs, keys in ((["HS256"] * 4, {"keys": [OCT]}), (drawn.sample(ALGS, 4), {"keys": [OCT, *KEYS["keys"]]})):
             tokens = [issued(payload, hide, alg) for payload, hide, alg in zip(payloads, hides, algs)]
             try:
                 picked = sdjwt.wallet({"keys": keys, **said}, tokens)
                 inside = sdjwt.show(picked.token)
-                found.append((picked.index, sorted((each["name"], repr(each["value"])) for each in inside["disclosures"])))
+                found.append(
+                    (picked.index, sorted((each["name"], repr(each["value"])) for each in inside["disclosures"]))
+                )
                 assert picked.token.split("~")[0] == tokens[picked.index].split("~")[0]
                 count += 1
             except sdjwt.Refused as refused:
@@ -101,9 +111,16 @@ def test_what_is_not_in_order_is_passed_over():
         assert sdjwt.wallet(query, [token, good]).index == 1
 
 
-@each("query, line", [
-    ({"want": ["seat"]}, "wrong want"), ({"other": 1}, "unknown"), ({"equal": [{"at": "/a", "value": []}]}, "wrong equal"),
-    ({"algs": ["ES256"]}, "unknown"), ({"never": "/a"}, "wrong never")])
+@each(
+    "query, line",
+    [
+        ({"want": ["seat"]}, "wrong want"),
+        ({"other": 1}, "unknown"),
+        ({"equal": [{"at": "/a", "value": []}]}, "wrong equal"),
+        ({"algs": ["ES256"]}, "unknown"),
+        ({"never": "/a"}, "wrong never"),
+    ],
+)
 def test_a_query_that_is_none(query, line):
     for form in ({"keys": KEYS, **query}, json.dumps({"keys": KEYS, **query})):
         with pytest.raises(sdjwt.Unreadable) as caught:
@@ -117,11 +134,17 @@ def test_keys_that_are_none():
         sdjwt.wallet({"keys": {"keys": [bad]}}, [ticket("ES256")])
     assert sdjwt.wallet({"keys": {"keys": [bad, *KEYS["keys"]]}, "want": ["/seat"]}, [ticket("ES256")]).index == 0
     with pytest.warns(sdjwt.PrivateKeyWarning):
-        sdjwt.wallet({"keys": {"keys": [{**ISSUERS["ES256"].jwk(kid="ES256"), "d": "AA"}]}, "want": ["/seat"]}, [ticket("ES256")])
+        sdjwt.wallet(
+            {"keys": {"keys": [{**ISSUERS["ES256"].jwk(kid="ES256"), "d": "AA"}]}, "want": ["/seat"]}, [ticket("ES256")]
+        )
 
 
 def test_keys_in_each_form():
-    for keys in (ISSUERS["ES256"].pem(), [ISSUERS["ES256"].pair.public_key()], {"keys": [ISSUERS["ES256"].pem().decode()]}):
+    for keys in (
+        ISSUERS["ES256"].pem(),
+        [ISSUERS["ES256"].pair.public_key()],
+        {"keys": [ISSUERS["ES256"].pem().decode()]},
+    ):
         token = sdjwt.issue({"payload": {"seat": "B12"}, "hide": ["/seat"]}, sign=ISSUERS["ES256"].private_pem())
         assert sdjwt.wallet({"keys": keys, "want": ["/seat"]}, [token]).token == token
 
@@ -131,7 +154,9 @@ def test_many_tokens():
     for number in (0, 63):
         query = {"keys": KEYS, "equal": [{"at": "/row", "value": number}]}
         picked = sdjwt.wallet(query, tokens)
-        assert picked.index == number and sdjwt.verify({"keys": KEYS, "algs": ["ES256"]}, picked.token) == {"row": number}
+        assert picked.index == number and sdjwt.verify({"keys": KEYS, "algs": ["ES256"]}, picked.token) == {
+            "row": number
+        }
     for count in (0, 65):
         with pytest.raises(ValueError, match="1 to 64 tokens"):
             sdjwt.wallet({"keys": KEYS}, (tokens * 2)[:count])
@@ -140,7 +165,11 @@ def test_many_tokens():
 def test_an_audit_needs_the_shared_key():
     order = {"payload": {"a": 1}, "hide": ["/a"]}
     token = sdjwt.issue(order, sign=ISSUERS["ES256"].pair)
-    with pytest.raises(sdjwt.Unreadable, match='unreadable 1 missing key: .*"key" has to be one; a token that is signed with a private key cannot be audited'):
+    with pytest.raises(
+        sdjwt.Unreadable,
+        match='unreadable 1 missing key: .*"key" has to be one; a token that is signed with a private key cannot be '
+              'audited',
+    ):
         sdjwt.audit(order, token)
     with pytest.raises(sdjwt.Unreadable, match="unreadable 1 wrong key: at /key"):
         sdjwt.audit({**order, "key": "x"}, token)

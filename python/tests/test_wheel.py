@@ -161,9 +161,19 @@ def as_it_is(text):
     return text
 
 
-@pytest.mark.parametrize("said, changed, proved", [
-    ("yes", as_it_is, True), ("no", as_it_is, False), ("no: libsdjwt.a was compiled without proofs", as_it_is, False),
-    ("yes", without_end, None), ("yes", twice, None), ("yes", empty, None), ("no", by_hand, None), (None, as_it_is, None)])
+@pytest.mark.parametrize(
+    "said, changed, proved",
+    [
+        ("yes", as_it_is, True),
+        ("no", as_it_is, False),
+        ("no: libsdjwt.a was compiled without proofs", as_it_is, False),
+        ("yes", without_end, None),
+        ("yes", twice, None),
+        ("yes", empty, None),
+        ("no", by_hand, None),
+        (None, as_it_is, None),
+    ],
+)
 def test_what_a_wheel_says_of_its_library(said, changed, proved, backend, tmp_path, monkeypatch, capsys):
     kept = tmp_path / "c/out/record"
     if said is None:

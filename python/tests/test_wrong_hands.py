@@ -1,4 +1,6 @@
-"""What is given by a wrong hand: values of other types, texts that are none, moments that are none, tokens that are too long."""
+"""What is given by a wrong hand: values of other types, texts that are none, moments that are none, tokens that are too
+long.
+"""
 import itertools
 import pickle
 import re
@@ -58,8 +60,22 @@ def test_a_seed_is_bytes(seed):
 
 
 # the last two differ behind byte 32 alone, where nothing would count
-@each("seed", [b"", b"x" * 31, b"x" * 33, bytes(64), bytearray(31), bytearray(33), memoryview(bytes(31)), memoryview(bytes(40)),
-               b"the tickets of the year 2026|token 1", b"the tickets of the year 2026|token 2"], ids=bytes)
+@each(
+    "seed",
+    [
+        b"",
+        b"x" * 31,
+        b"x" * 33,
+        bytes(64),
+        bytearray(31),
+        bytearray(33),
+        memoryview(bytes(31)),
+        memoryview(bytes(40)),
+        b"the tickets of the year 2026|token 1",
+        b"the tickets of the year 2026|token 2",
+    ],
+    ids=bytes,
+)
 def test_a_seed_has_just_32_bytes(seed):
     for more in ({}, {"sign": never, "alg": "ES256"}):
         order = {name: value for name, value in ORDER.items() if name != "key" or not more}
@@ -83,7 +99,11 @@ def test_a_file_of_another_type(call, given):
 
 
 @each("call", OF_FILES.values(), ids=OF_FILES)
-@each("given", [{1: 2}, {"a": [{None: 1}]}, {"a": {True: 1}}, {("a",): 1}, {"a": b"b"}, {"a": {1, 2}}, {"a": object()}], ids=repr)
+@each(
+    "given",
+    [{1: 2}, {"a": [{None: 1}]}, {"a": {True: 1}}, {("a",): 1}, {"a": b"b"}, {"a": {1, 2}}, {"a": object()}],
+    ids=repr,
+)
 def test_a_dict_that_is_no_json(call, given):
     assert re.search("order|policy|query", message(TypeError, call, given))
 
@@ -102,8 +122,19 @@ def deep():
 
 
 @each("call", OF_FILES.values(), ids=OF_FILES)
-@each("make", [lambda: {"a": float("nan")}, lambda: {"a": [float("-inf")]}, circle, deep, lambda: {"a": "\ud800"}, lambda: {"\udfff": 1},
-               lambda: "{\"a\":\"\ud800\"}", lambda: {"a": 10**5000}])
+@each(
+    "make",
+    [
+        lambda: {"a": float("nan")},
+        lambda: {"a": [float("-inf")]},
+        circle,
+        deep,
+        lambda: {"a": "\ud800"},
+        lambda: {"\udfff": 1},
+        lambda: "{\"a\":\"\ud800\"}",
+        lambda: {"a": 10**5000},
+    ],
+)
 def test_a_value_that_no_json_has(call, make):
     given = make()
     try:
@@ -124,8 +155,22 @@ def test_a_token_of_another_type(call, given):
 
 
 @each("call", OF_TOKENS.values(), ids=OF_TOKENS)
-@each("given", ["\ud800", TOKEN[:9] + "\udfff" + TOKEN[9:], "{\"payload\":\"\ud83d\"}", {"payload": "\ud800"}, {"payload": float("nan")},
-                {"payload": float("inf")}, b"\xff", "\x00", {}, ""], ids=repr)
+@each(
+    "given",
+    [
+        "\ud800",
+        TOKEN[:9] + "\udfff" + TOKEN[9:],
+        "{\"payload\":\"\ud83d\"}",
+        {"payload": "\ud800"},
+        {"payload": float("nan")},
+        {"payload": float("inf")},
+        b"\xff",
+        "\x00",
+        {},
+        "",
+    ],
+    ids=repr,
+)
 def test_what_a_stranger_sends_is_refused_by_the_library(call, given):
     if call is OF_TOKENS["wallet token"]:
         assert call(given).index == 0
@@ -161,7 +206,11 @@ def test_a_moment_of_another_type(call, now):
 
 
 @each("call", OF_MOMENTS.values(), ids=OF_MOMENTS)
-@each("now", [-1, -0.5, float("nan"), float("inf"), -float("inf"), 2**64, 2.0**64, 10**400], ids=lambda now: str(now)[:9])
+@each(
+    "now",
+    [-1, -0.5, float("nan"), float("inf"), -float("inf"), 2**64, 2.0**64, 10**400],
+    ids=lambda now: str(now)[:9],
+)
 def test_a_moment_that_is_none(call, now):
     assert "now" in message(ValueError, call, now)
 
@@ -174,7 +223,13 @@ def test_the_least_and_the_greatest_moment(now):
 @each("call", OF_TOKENS.values(), ids=OF_TOKENS)
 def test_a_token_that_is_longer_than_most(call):
     long = sdjwt.MOST - 8
-    for most, given in ((len(TOKEN) - 1, TOKEN), (len(TOKEN) - 1, TOKEN.encode()), (5, "\u20ac\u20ac"), (9, {"payload": ""}), (0, bytearray(1))):
+    for most, given in (
+        (len(TOKEN) - 1, TOKEN),
+        (len(TOKEN) - 1, TOKEN.encode()),
+        (5, "\u20ac\u20ac"),
+        (9, {"payload": ""}),
+        (0, bytearray(1)),
+    ):
         with pytest.raises(sdjwt.TooLong) as caught:
             call(given, most=most)
         assert isinstance(caught.value, ValueError) and isinstance(caught.value, sdjwt.SdJwtError)
@@ -198,7 +253,11 @@ def test_most_is_a_number_of_bytes(call):
     assert "most" in message(ValueError, call, TOKEN, most=-1)
 
 
-@each("tokens", [TOKEN, TOKEN.encode(), bytearray(TOKEN.encode()), sdjwt.convert("flat", TOKEN), 42, None], ids=lambda given: type(given).__name__)
+@each(
+    "tokens",
+    [TOKEN, TOKEN.encode(), bytearray(TOKEN.encode()), sdjwt.convert("flat", TOKEN), 42, None],
+    ids=lambda given: type(given).__name__,
+)
 def test_tokens_of_a_wallet_are_several(tokens):
     assert "tokens" in message(TypeError, sdjwt.wallet, POLICY, tokens)
 

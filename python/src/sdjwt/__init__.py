@@ -1,23 +1,24 @@
 """SD-JWT (RFC 9901): issue, present and verify, by a library that is proved.
 
-An order, a policy and a query are dicts, or their JSON as str or bytes; README.md of the repository and docs/FILES.md say what
-they have in them. A token is a str or bytes, or the dict of a JSON serialization. Where bytes are taken, a bytearray and a
-memoryview are too. What is of another type is a TypeError that names the argument.
+An order, a policy and a query are dicts, or their JSON as str or bytes; README.md of the repository and docs/FILES.md
+say what they have in them. A token is a str or bytes, or the dict of a JSON serialization. Where bytes are taken, a
+bytearray and a memoryview are too. What is of another type is a TypeError that names the argument.
 
 A token may come from a stranger, so each call that takes one bounds its length in bytes by `most`, and a longer one is
 `TooLong`. The time and the memory that a call takes grow with this length.
 
 >>> import sdjwt
 >>> key = "dGhlIHRpY2tldCBvZmZpY2Uga2V5LCBub3QgeW91cnM"
->>> token = sdjwt.issue({"payload": {"iss": "tickets", "seat": "B12", "name": "Ada"}, "hide": ["/seat", "/name"], "key": key})
+>>> payload = {"iss": "tickets", "seat": "B12", "name": "Ada"}
+>>> token = sdjwt.issue({"payload": payload, "hide": ["/seat", "/name"], "key": key})
 >>> keys = {"keys": [{"kty": "oct", "k": key}]}
 >>> shown = sdjwt.present({"keys": keys, "want": ["/seat"]}, token)
 >>> sdjwt.verify({"keys": keys, "iss": "tickets"}, shown)
 {'iss': 'tickets', 'seat': 'B12'}
 
-A key of an order is shared (HMAC): whoever verifies such a token can make one. With `sign` a token is issued, and presented, with
-a private key, of which verifiers have the public one, by the package cryptography, which the extra `keys` installs. Tokens that others
-signed so are verified too.
+A key of an order is shared (HMAC): whoever verifies such a token can make one. With `sign` a token is issued, and
+presented, with a private key, of which verifiers have the public one, by the package cryptography, which the extra
+`keys` installs. Tokens that others signed so are verified too.
 """
 from __future__ import annotations
 
@@ -79,12 +80,57 @@ from sdjwt._types import (
 from sdjwt._wallet import wallet_of
 
 __all__ = [
-    "MOST", "AlgorithmRefused", "AsyncCheckFunction", "AsyncKeysFunction", "AsyncSignFunction", "AudienceDiffers", "BadOrder",
-    "BadPresentation", "BadSignature", "BindingRefused", "Bytes", "CheckFunction", "Expired", "IssuerRefused", "Json", "Keys",
-    "KeysFunction", "MissingClaim", "Moment", "NoCryptography", "NonceDiffers", "NotYetValid", "OutOfMemory", "OutOfStack",
-    "Picked", "Policy", "PrivateKey", "PrivateKeyWarning", "PublicKey", "Question", "Refused", "SdJwtError", "SignFunction",
-    "SkippedKey", "TooLong", "UnknownKey", "Unreadable", "Verified", "__version__", "audit", "convert", "issue", "issue_async",
-    "present", "present_async", "proved", "public_jwk", "show", "split", "verify", "wallet",
+    "MOST",
+    "AlgorithmRefused",
+    "AsyncCheckFunction",
+    "AsyncKeysFunction",
+    "AsyncSignFunction",
+    "AudienceDiffers",
+    "BadOrder",
+    "BadPresentation",
+    "BadSignature",
+    "BindingRefused",
+    "Bytes",
+    "CheckFunction",
+    "Expired",
+    "IssuerRefused",
+    "Json",
+    "Keys",
+    "KeysFunction",
+    "MissingClaim",
+    "Moment",
+    "NoCryptography",
+    "NonceDiffers",
+    "NotYetValid",
+    "OutOfMemory",
+    "OutOfStack",
+    "Picked",
+    "Policy",
+    "PrivateKey",
+    "PrivateKeyWarning",
+    "PublicKey",
+    "Question",
+    "Refused",
+    "SdJwtError",
+    "SignFunction",
+    "SkippedKey",
+    "TooLong",
+    "UnknownKey",
+    "Unreadable",
+    "Verified",
+    "__version__",
+    "audit",
+    "convert",
+    "issue",
+    "issue_async",
+    "present",
+    "present_async",
+    "proved",
+    "public_jwk",
+    "show",
+    "split",
+    "verify",
+    "wallet",
 ]
 
 _FORMS = {"compact": 0, "flat": 1, "general": 2}
@@ -95,9 +141,9 @@ def issue(
 ) -> str:
     """The token of an order, in its compact form.
 
-    The salts of the hidden claims come from the seed, which is 32 random bytes if you give none. Anyone who knows the seed
-    can guess what is hidden, so give one only to get the same token again, as in a test. A seed of another length is a
-    ValueError.
+    The salts of the hidden claims come from the seed, which is 32 random bytes if you give none. Anyone who knows the
+    seed can guess what is hidden, so give one only to get the same token again, as in a test. A seed of another length
+    is a ValueError.
 
     >>> key = "dGhlIHRpY2tldCBvZmZpY2Uga2V5LCBub3QgeW91cnM"
     >>> token = issue({"payload": {"name": "Ada"}, "hide": ["/name"], "key": key})
@@ -107,13 +153,15 @@ def issue(
     Traceback (most recent call last):
     sdjwt.BadOrder: refused 55 noSuchPlace at 0: ...
 
-    The key of an order is shared. With `sign` the order has neither `key` nor `alg`, and `sign` is a private key, as an object of the
-    package cryptography, a PEM or a JWK, or a function that is given the bytes to sign and returns the signature. A key of P-256, P-384, P-521 or Ed25519
-    signs by ES256, ES384, ES512 or EdDSA. For one of RSA `alg` names the algorithm: PS256, PS384, PS512, RS256, RS384 or RS512.
-    For a function `alg` names its algorithm, and the signature is the one that a JWS has: of ES256 the 64 bytes of r and s, and
-    not the DER that many a vault answers. It is asked once, and not for an order that 51 to 60 refuse.
+    The key of an order is shared. With `sign` the order has neither `key` nor `alg`, and `sign` is a private key, as an
+    object of the package cryptography, a PEM or a JWK, or a function that is given the bytes to sign and returns the
+    signature. A key of P-256, P-384, P-521 or Ed25519 signs by ES256, ES384, ES512 or EdDSA. For one of RSA `alg` names
+    the algorithm: PS256, PS384, PS512, RS256, RS384 or RS512. For a function `alg` names its algorithm, and the
+    signature is the one that a JWS has: of ES256 the 64 bytes of r and s, and not the DER that many a vault answers. It
+    is asked once, and not for an order that 51 to 60 refuse.
 
-    If `cnf.jwk` of the payload is a private or a symmetric key, `issue` raises ValueError: anyone who sees the token could read it.
+    If `cnf.jwk` of the payload is a private or a symmetric key, `issue` raises ValueError: anyone who sees the token
+    could read it.
 
     >>> def vault(text):
     ...     return bytes(64)                # the signature that your vault makes of these bytes
@@ -125,7 +173,11 @@ def issue(
 
 
 async def issue_async(
-    order: Json, seed: Bytes | None = None, *, sign: PrivateKey | SignFunction | AsyncSignFunction | None = None, alg: str | None = None,
+    order: Json,
+    seed: Bytes | None = None,
+    *,
+    sign: PrivateKey | SignFunction | AsyncSignFunction | None = None,
+    alg: str | None = None,
 ) -> str:
     """`issue` on another thread, so that the event loop goes on. Only here may `sign` be a coroutine function."""
     return await finish_async(_issued(order, seed, sign, alg))
@@ -149,7 +201,8 @@ def present(
 ) -> str:
     """What a holder presents of a token, in its compact form.
 
-    The moment, which a key binding token tells, is in seconds since 1970 or an aware datetime; it is now where none is given.
+    The moment, which a key binding token tells, is in seconds since 1970 or an aware datetime; it is now where none is
+    given.
 
     >>> key = "dGhlIHRpY2tldCBvZmZpY2Uga2V5LCBub3QgeW91cnM"
     >>> token = issue({"payload": {"name": "Ada", "age": 7}, "hide": ["/name", "/age"], "key": key})
@@ -158,13 +211,15 @@ def present(
     >>> [disclosure["name"] for disclosure in show(shown)["disclosures"]]
     ['age']
 
-    A token that is signed with a private key is presented by an order that has the public keys of issuers in `keys`, shared ones
-    beside them, and in `algs` the algorithms that are taken, as a policy has them; `check` is a function for other keys, as in
-    `Policy`. Its `binding` has `aud` and `nonce` and no key: `sign` makes the signature of the key binding token, and `alg` names
-    its algorithm, as in `issue`. Where `binding` has a `kid`, the claim `cnf` of what is shown has to name it; else which key the
-    holder signs with is not looked at. `sign` is asked once, and not for what 71 to 74, or a condition of the token, refuse.
+    A token that is signed with a private key is presented by an order that has the public keys of issuers in `keys`,
+    shared ones beside them, and in `algs` the algorithms that are taken, as a policy has them; `check` is a function
+    for other keys, as in `Policy`. Its `binding` has `aud` and `nonce` and no key: `sign` makes the signature of the
+    key binding token, and `alg` names its algorithm, as in `issue`. Where `binding` has a `kid`, the claim `cnf` of
+    what is shown has to name it; else which key the holder signs with is not looked at. `sign` is asked once, and not
+    for what 71 to 74, or a condition of the token, refuse.
 
-    >>> token = issue({"payload": {"name": "Ada", "age": 7}, "hide": ["/name", "/age"]}, sign=lambda text: bytes(64), alg="ES256")
+    >>> order = {"payload": {"name": "Ada", "age": 7}, "hide": ["/name", "/age"]}
+    >>> token = issue(order, sign=lambda text: bytes(64), alg="ES256")
     >>> order = {"algs": ["ES256"], "want": ["/age"], "binding": {"aud": "https://door.example", "nonce": "4711"}}
     >>> shown = present(order, token, check=lambda question: True, sign=lambda text: bytes(64), alg="ES256")
     >>> show(shown)["binding"] is None, len(show(shown)["disclosures"])
@@ -178,12 +233,21 @@ async def present_async(
     sign: PrivateKey | SignFunction | AsyncSignFunction | None = None, alg: str | None = None,
     check: CheckFunction | AsyncCheckFunction | None = None,
 ) -> str:
-    """`present` on another thread, so that the event loop goes on. Only here may `sign` and `check` be coroutine functions."""
+    """`present` on another thread, so that the event loop goes on.
+
+    Only here may `sign` and `check` be coroutine functions.
+    """
     return await finish_async(_presented(order, token, now, most, sign, alg, check))
 
 
 def _presented(
-    order: Json, token: Json, now: Moment | None, most: int, sign: object, alg: str | None, check: CheckFunction | AsyncCheckFunction | None,
+    order: Json,
+    token: Json,
+    now: Moment | None,
+    most: int,
+    sign: object,
+    alg: str | None,
+    check: CheckFunction | AsyncCheckFunction | None,
 ) -> Steps[str]:
     ordered = file_bytes(with_key_sets(order), "order")
     given, at = token_bytes(token, most), moment(now)
@@ -195,13 +259,20 @@ def _presented(
 
 
 def verify(
-    policy: Json, token: Json, now: Moment | None = None, *, nonce: str | None = None, audience: str | None = None, most: int = MOST,
-    keys: Keys | KeysFunction | None = None, check: CheckFunction | None = None,
+    policy: Json,
+    token: Json,
+    now: Moment | None = None,
+    *,
+    nonce: str | None = None,
+    audience: str | None = None,
+    most: int = MOST,
+    keys: Keys | KeysFunction | None = None,
+    check: CheckFunction | None = None,
 ) -> dict[str, Any]:
     """The claims of a token that is accepted under a policy. For many tokens under one policy take `Policy`.
 
-    A policy may have public keys, and `check` is a function for signatures under others: `Policy` says how, and what `nonce` and
-    `audience` are.
+    A policy may have public keys, and `check` is a function for signatures under others: `Policy` says how, and what
+    `nonce` and `audience` are.
 
     >>> key = "dGhlIHRpY2tldCBvZmZpY2Uga2V5LCBub3QgeW91cnM"
     >>> token = issue({"payload": {"iss": "tickets", "exp": 1000, "seat": "B12"}, "hide": ["/seat"], "key": key})
@@ -230,7 +301,8 @@ def show(token: Json, *, most: int = MOST) -> dict[str, Any]:
 
     A disclosure has its `digest`, its `value`, and its `name` where it is one of a member.
 
-    >>> token = issue({"payload": {"name": "Ada"}, "hide": ["/name"], "key": "dGhlIHRpY2tldCBvZmZpY2Uga2V5LCBub3QgeW91cnM"})
+    >>> key = "dGhlIHRpY2tldCBvZmZpY2Uga2V5LCBub3QgeW91cnM"
+    >>> token = issue({"payload": {"name": "Ada"}, "hide": ["/name"], "key": key})
     >>> inside = show(token)
     >>> inside["header"], inside["binding"]
     ({'alg': 'HS256'}, None)
@@ -242,9 +314,11 @@ def show(token: Json, *, most: int = MOST) -> dict[str, Any]:
 
 
 def split(token: Json, *, most: int = MOST) -> dict[str, Any]:
-    """The texts of the parts of a token, unchecked: `protected`, `payload`, `signature`, `disclosures`, and `binding` or None.
+    """The texts of the parts of a token, unchecked: `protected`, `payload`, `signature`, `disclosures`, and `binding`
+    or None.
 
-    >>> token = issue({"payload": {"name": "Ada"}, "hide": ["/name"], "key": "dGhlIHRpY2tldCBvZmZpY2Uga2V5LCBub3QgeW91cnM"})
+    >>> key = "dGhlIHRpY2tldCBvZmZpY2Uga2V5LCBub3QgeW91cnM"
+    >>> token = issue({"payload": {"name": "Ada"}, "hide": ["/name"], "key": key})
     >>> parts = split(token)
     >>> token == f"{parts['protected']}.{parts['payload']}.{parts['signature']}~{parts['disclosures'][0]}~"
     True
@@ -260,7 +334,8 @@ def convert(form: Literal["flat", "general"], token: Json, *, most: int = MOST) 
 def convert(form: Literal["compact", "flat", "general"], token: Json, *, most: int = MOST) -> str | dict[str, Any]:
     """A token in another form, unchecked: compact as a str, and flat or general as the dict of its JSON.
 
-    >>> token = issue({"payload": {"name": "Ada"}, "hide": ["/name"], "key": "dGhlIHRpY2tldCBvZmZpY2Uga2V5LCBub3QgeW91cnM"})
+    >>> key = "dGhlIHRpY2tldCBvZmZpY2Uga2V5LCBub3QgeW91cnM"
+    >>> token = issue({"payload": {"name": "Ada"}, "hide": ["/name"], "key": key})
     >>> flat = convert("flat", token)
     >>> sorted(flat)
     ['header', 'payload', 'protected', 'signature']
@@ -279,8 +354,8 @@ def convert(form: Literal["compact", "flat", "general"], token: Json, *, most: i
 def audit(order: Json, token: Json, *, most: int = MOST) -> None:
     """Audits a token for the order that it was issued for, as who has no seed can.
 
-    Nothing is answered where the token is what the order asks for, signed with its key. Else `Refused` tells the first that
-    differs, by its number: 81 to 86, or 80 where the order itself is refused.
+    Nothing is answered where the token is what the order asks for, signed with its key. Else `Refused` tells the first
+    that differs, by its number: 81 to 86, or 80 where the order itself is refused.
 
     >>> order = {"payload": {"name": "Ada"}, "hide": ["/name"], "key": "dGhlIHRpY2tldCBvZmZpY2Uga2V5LCBub3QgeW91cnM"}
     >>> token = issue(order)
@@ -296,7 +371,9 @@ def audit(order: Json, token: Json, *, most: int = MOST) -> None:
     except Unreadable as fault:
         if fault.reason != "missing key":
             raise
-        raise Unreadable(fault.line, f"{fault.detail}; a token that is signed with a private key cannot be audited") from None
+        raise Unreadable(
+            fault.line, f"{fault.detail}; a token that is signed with a private key cannot be audited"
+        ) from None
 
 
 @dataclass(frozen=True)
@@ -310,7 +387,8 @@ class Picked:
 def wallet(query: Json, tokens: Iterable[Json], *, most: int = MOST) -> Picked:
     """Of 1 to 64 tokens that a holder has, the one that answers a query with the fewest disclosures.
 
-    `most` bounds the length of each token. The `keys` of the query may be public ones, each for the algorithms of its type.
+    `most` bounds the length of each token. The `keys` of the query may be public ones, each for the algorithms of its
+    type.
 
     >>> key = "dGhlIHRpY2tldCBvZmZpY2Uga2V5LCBub3QgeW91cnM"
     >>> ticket = issue({"payload": {"name": "Ada", "seat": "B12"}, "hide": ["/name", "/seat"], "key": key})

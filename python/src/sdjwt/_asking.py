@@ -1,7 +1,7 @@
 """A policy whose signatures are checked here: under its public and symmetric keys, or by a function of the caller.
 
-No rule of SD-JWT stands here. The library judges the token, and asks of each signature whether it is good; what is decided
-is only under which key it is checked. A policy with symmetric keys only is left to the library.
+No rule of SD-JWT stands here. The library judges the token, and asks of each signature whether it is good; what is
+decided is only under which key it is checked. A policy with symmetric keys only is left to the library.
 """
 from __future__ import annotations
 
@@ -15,7 +15,17 @@ from typing import Any, NamedTuple, Optional, Union
 from sdjwt import _library
 from sdjwt._errors import NoCryptography, Unreadable
 from sdjwt._key_forms import as_key_set
-from sdjwt._key_sets import KeySet, SkippedKey, has_set, is_oct, jwks, need_a_key, of_other_types, read_set, warn_of_private
+from sdjwt._key_sets import (
+    KeySet,
+    SkippedKey,
+    has_set,
+    is_oct,
+    jwks,
+    need_a_key,
+    of_other_types,
+    read_set,
+    warn_of_private,
+)
 from sdjwt._keys import PUBLIC, BadKey, Key, decoded, find, is_shared, key_of, serves
 from sdjwt._library import ASKS, BAD, GOOD, UNKNOWN, UNREADABLE, UNSAID, Handle
 from sdjwt._steps import Asked, Steps
@@ -34,9 +44,9 @@ _read_json = json.JSONDecoder().raw_decode
 class Question:
     """A signature that a function given as `check` is to judge.
 
-    `asks` is "issuer" or "holder", `text` is what was signed, `signature` its bytes, and `alg`, `kid` and `typ` are those
-    of the header, the last two None where it has none. `payload` is None where the issuer is asked about; for the holder
-    it is the processed payload, whose claim `cnf` names the key.
+    `asks` is "issuer" or "holder", `text` is what was signed, `signature` its bytes, and `alg`, `kid` and `typ` are
+    those of the header, the last two None where it has none. `payload` is None where the issuer is asked about; for the
+    holder it is the processed payload, whose claim `cnf` names the key.
     """
 
     __module__ = "sdjwt"
@@ -107,7 +117,9 @@ class Checking:
         """What is said of the signature of a question. The function `check` is never asked about an HMAC."""
         asked = _read_json(question.decode())[0]
         alg, kid, payload = asked["alg"], asked.get("kid"), asked.get("payload")
-        put = Question(asked["ask"], alg, kid, asked.get("typ"), asked["text"].encode(), decoded(asked["signature"]), payload)
+        put = Question(
+            asked["ask"], alg, kid, asked.get("typ"), asked["text"].encode(), decoded(asked["signature"]), payload
+        )
         key = find(self.issuers, alg, kid) if payload is None else self._of_holder(payload, alg)
         if key is None and payload is None and self.functions.keys is not None:
             found = yield Asked(self.functions.keys, "keys", (put.iss, put.header))
@@ -227,7 +239,9 @@ def _holder_algs(policy: dict[str, Any]) -> Any:
 
 
 def _without_keys(policy: dict[str, Any]) -> dict[str, Any]:
-    """A policy as the library takes it: without the list of holders, and with empty key sets, because the caller checks."""
+    """A policy as the library takes it: without the list of holders, and with empty key sets, because the caller
+    checks.
+    """
     said = {**policy, **(_NO_KEYS if has_set(policy) else {})}
     binding = policy.get("binding")
     if isinstance(binding, dict):
@@ -282,11 +296,16 @@ def _with_sets(policy: dict[str, Any]) -> list[tuple[dict[str, Any], str]]:
 def skipped_of(text: bytes) -> tuple[SkippedKey, ...]:
     """The keys of a policy that the library skips."""
     policy = read_object(text, True) or {}
-    return tuple(key for holder, place in _with_sets(policy) for key in of_other_types(holder, "binding" if place else "keys"))
+    return tuple(
+        key for holder, place in _with_sets(policy) for key in of_other_types(holder, "binding" if place else "keys")
+    )
 
 
 def read_object(text: bytes, is_needed: bool) -> dict[str, Any] | None:
-    """The object of a policy or an order. None where the library is to say what is wrong with it, or where it need not be read."""
+    """The object of a policy or an order.
+
+    None where the library is to say what is wrong with it, or where it need not be read.
+    """
     if not is_needed and not _HINTS.search(text):
         return None
     try:
@@ -315,5 +334,7 @@ def _said(answer: object) -> int:
     if answer is None:
         return UNKNOWN
     if not isinstance(answer, bool):
-        raise TypeError(f"sdjwt: check answered a value of type {type(answer).__name__}, and has to answer True, False or None")
+        raise TypeError(
+            f"sdjwt: check answered a value of type {type(answer).__name__}, and has to answer True, False or None"
+        )
     return GOOD if answer else BAD

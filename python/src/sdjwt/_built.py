@@ -22,6 +22,6 @@ def _proved() -> bool | None:
     return proved if hashlib.sha256(Path(PATH).read_bytes()).hexdigest() == _SAID["sha256"] else None
 
 
-# Whether the library was built of proved crates. None where nobody said so of just these bytes, as of one that SDJWT_LIBRARY names,
-# or that took the place of the package's own.
+# Whether the library was built of proved crates. None where nobody said so of just these bytes, as of one that
+# SDJWT_LIBRARY names, or that took the place of the package's own.
 PROVED: bool | None = _proved()

@@ -1,7 +1,8 @@
 """What is wrong in a file that is not of its form, and where: the texts of `Unreadable.detail` and of sdjwt-explain.
 
-Nothing is judged here. The library has judged, by a line such as `unreadable 1 wrong keys`, and this looks for what that
-line is about. No value of a file is repeated, since it may be a key: a text has places, positions and names of members.
+Nothing is judged here. The library has judged, by a line such as `unreadable 1 wrong keys`, and this looks for what
+that line is about. No value of a file is repeated, since it may be a key: a text has places, positions and names of
+members.
 """
 from __future__ import annotations
 
@@ -47,11 +48,19 @@ _WORDS = {"true": True, "false": False, "null": None}
 _WORD = re.compile("|".join(_WORDS))
 # What stands where a value has to, and what is said of it.
 _NO_VALUES = {
-    "'": "a text stands in double quotes", "\u201c": "a text stands in straight double quotes", "+": "no number begins with +",
-    ".": "no number begins with a point", "}": "a value is missing before this bracket", ",": "a value is missing before this comma",
-    "]": "a value is missing before this bracket", "/": "JSON has no comments", "#": "JSON has no comments",
-    "T": "true, false and null are written in small letters", "F": "true, false and null are written in small letters",
-    "N": "there is no None and no NaN: a value that is not there is null", "I": "there is no Infinity",
+    "'": "a text stands in double quotes",
+    "\u201c": "a text stands in straight double quotes",
+    "+": "no number begins with +",
+    ".": "no number begins with a point",
+    "}": "a value is missing before this bracket",
+    ",": "a value is missing before this comma",
+    "]": "a value is missing before this bracket",
+    "/": "JSON has no comments",
+    "#": "JSON has no comments",
+    "T": "true, false and null are written in small letters",
+    "F": "true, false and null are written in small letters",
+    "N": "there is no None and no NaN: a value that is not there is null",
+    "I": "there is no Infinity",
 }
 
 
@@ -113,7 +122,10 @@ class _Reader:
             return _WORDS[word[0]]
         if letter == "":
             raise _NotJson(self.at, "the file ends before the JSON text does: a value is missing")
-        raise _NotJson(self.at, _NO_VALUES.get(letter, "a value has to stand here: a text in quotes, a number, a list or an object"))
+        raise _NotJson(
+            self.at,
+            _NO_VALUES.get(letter, "a value has to stand here: a text in quotes, a number, a list or an object"),
+        )
 
     def _object(self, depth: int) -> dict[str, Any]:
         members: dict[str, Any] = {}
@@ -181,7 +193,10 @@ class _Reader:
             elif letter == "":
                 raise _NotJson(opened, "the text that begins here has no end")
             else:
-                raise _NotJson(self.at, "a line end, a tab or another control character stands in a text: write \\n, \\t or \\u00..")
+                raise _NotJson(
+                    self.at,
+                    "a line end, a tab or another control character stands in a text: write \\n, \\t or \\u00..",
+                )
 
     def _escape(self) -> None:
         escape = _ESCAPE.match(self.text, self.at)
@@ -363,14 +378,21 @@ def _miscoded(key: str) -> str:
         return f"it has {len(key)} letters, which is one too few or one too many for any bytes"
     unused = {2: 4, 3: 2}.get(len(key) % 4, 0)
     if key and _LETTERS.index(key[-1]) % 2**unused:
-        return f"the last {unused} bits of its last letter code nothing and have to be 0: it was changed, or was not made of bytes"
+        return (
+        f"the last {unused} bits of its last letter code nothing and have to be 0: "
+        "it was changed, or was not made of bytes"
+    )
     return ""
 
 
 def _miscoded_key(key: str) -> str:
     """The same for a key. It is said first that it is too short."""
     said, letters = _miscoded(key), len(key.rstrip("="))
-    return f"it is too short: {letters} letters, and a key has at least {_KEY_LETTERS}" if said and letters < _KEY_LETTERS else said
+    return (
+        f"it is too short: {letters} letters, and a key has at least {_KEY_LETTERS}"
+        if said and letters < _KEY_LETTERS
+        else said
+    )
 
 
 def _is_short(key: str) -> str:
@@ -450,7 +472,11 @@ def _alg(value: Any, place: str, file: dict[str, Any]) -> str:
 
 
 def _plain(value: Any, place: str, file: dict[str, Any]) -> str:
-    return _at(place, f"it is {_is(value)}, and a value that is asked for is none") if isinstance(value, (dict, list)) else ""
+    return (
+        _at(place, f"it is {_is(value)}, and a value that is asked for is none")
+        if isinstance(value, (dict, list))
+        else ""
+    )
 
 
 class _Member(NamedTuple):
@@ -475,19 +501,36 @@ _ORDER = (
     _Member("kid", _text), _Member("typ", _text), _Member("alg", _alg), _Member("sd_alg", _one_of(_HASHES)))
 _FORMS: dict[str, tuple[_Member, ...]] = {
     "policy": (
-        _Member("version", _version), _Member("keys", _key_set, True), _Member("algs", _list_of(_text)), _Member("typ", _text),
-        _Member("iss", _by_version(_text, _list_of(_text, 1))), _Member("require", _list_of(_text)), _Member("skew", _whole(3600)),
-        _Member("binding", _just(_BINDINGS["policy"]))),
+        _Member("version", _version),
+        _Member("keys", _key_set, True),
+        _Member("algs", _list_of(_text)),
+        _Member("typ", _text),
+        _Member("iss", _by_version(_text, _list_of(_text, 1))),
+        _Member("require", _list_of(_text)),
+        _Member("skew", _whole(3600)),
+        _Member("binding", _just(_BINDINGS["policy"])),
+    ),
     "order": _ORDER,
     UNSIGNED: tuple(member for member in _ORDER if member.name not in ("key", "alg")),
     "present order": (
-        _Member("keys", _key_set, True), _Member("want", _POINTERS), _Member("never", _POINTERS), _Member("binding", _just(_BINDINGS["present order"]))),
+        _Member("keys", _key_set, True),
+        _Member("want", _POINTERS),
+        _Member("never", _POINTERS),
+        _Member("binding", _just(_BINDINGS["present order"])),
+    ),
     ASKED: (
-        _Member("keys", _any_keys), _Member("algs", _list_of(_text), True), _Member("want", _POINTERS), _Member("never", _POINTERS),
-        _Member("binding", _just(_BINDINGS[ASKED], ("alg", "kid")))),
+        _Member("keys", _any_keys),
+        _Member("algs", _list_of(_text), True),
+        _Member("want", _POINTERS),
+        _Member("never", _POINTERS),
+        _Member("binding", _just(_BINDINGS[ASKED], ("alg", "kid"))),
+    ),
     "query": (
-        _Member("keys", _key_set, True), _Member("want", _POINTERS),
-        _Member("equal", _list_of(_just({"at": _pointer, "value": _plain}))), _Member("never", _POINTERS)),
+        _Member("keys", _key_set, True),
+        _Member("want", _POINTERS),
+        _Member("equal", _list_of(_just({"at": _pointer, "value": _plain}))),
+        _Member("never", _POINTERS),
+    ),
 }
 KINDS = (*(kind for kind in _FORMS if kind not in (UNSIGNED, ASKED)), "seed")
 
@@ -496,7 +539,11 @@ def fault(kind: str, content: bytes) -> Fault | None:
     """The first fault of what a file of a kind has in it. `kind` is one of KINDS, UNSIGNED or ASKED."""
     if kind == "seed":
         short = len(content) < _SEED_LEN
-        return Fault("short", f"it has {len(content)} bytes, of the at least {_SEED_LEN} that a seed has") if short else None
+        return (
+            Fault("short", f"it has {len(content)} bytes, of the at least {_SEED_LEN} that a seed has")
+            if short
+            else None
+        )
     if len(content) > FILE_MAX:
         return Fault("tooLong", f"it has more than {FILE_MAX} bytes")
     try:
@@ -512,13 +559,18 @@ def fault(kind: str, content: bytes) -> Fault | None:
     uneven, place = min(_unevens(value, ""), default=(None, "")) if reader.has_uneven else (None, "")
     if uneven is not None:
         return Fault("notWhole", f"{_where(text, uneven.at)}: the number at {shown_place(place)} {uneven.why}")
-    return _form_fault(kind, value) if isinstance(value, dict) else Fault("notObject", f"it is {_is(value)}, and has to be an object")
+    return (
+        _form_fault(kind, value)
+        if isinstance(value, dict)
+        else Fault("notObject", f"it is {_is(value)}, and has to be an object")
+    )
 
 
 def _no_utf_8(content: bytes, at: int) -> str:
     if content[:2] in (b"\xff\xfe", b"\xfe\xff"):
         return "the file is in UTF-16, and has to be in UTF-8"
-    return f"{_where(content[:at].decode(), len(content[:at].decode()))}: byte {at} of the file, counted from 0, is not UTF-8"
+    before = content[:at].decode()
+    return f"{_where(before, len(before))}: byte {at} of the file, counted from 0, is not UTF-8"
 
 
 def _form_fault(kind: str, file: dict[str, Any]) -> Fault | None:
@@ -552,7 +604,10 @@ def _unknown(kind: str, unknown: list[str], known: list[str]) -> str:
 
 
 def detail(reason: str, content: bytes, kinds: Iterable[str] = KINDS) -> str:
-    """What is wrong with a file that was refused for this reason, as one of these kinds. Nothing where no more is known."""
+    """What is wrong with a file that was refused for this reason, as one of these kinds.
+
+    Nothing where no more is known.
+    """
     found = [(kind, fault(kind, content)) for kind in kinds]
     of_reason = [(kind, its) for kind, its in found if its is not None and its.reason == reason]
     least = min((its.strangers for _, its in of_reason), default=0)

@@ -1,7 +1,7 @@
 """The exceptions of the package.
 
-A refusal is of the class that the table CLASSES has for its number. Programs see the classes under the name of the package, for
-example `sdjwt.Expired`, which a log shows too.
+A refusal is of the class that the table CLASSES has for its number. Programs see the classes under the name of the
+package, for example `sdjwt.Expired`, which a log shows too.
 """
 from __future__ import annotations
 
@@ -73,8 +73,8 @@ class SdJwtError(Exception):
 class Refused(SdJwtError):
     """A rule refuses what was given. Only the first rule that fails is named.
 
-    `number` and `name` are those of docs/REFUSALS.md, and `place` says where, or is None. Refusals that programs tell apart have
-    classes of their own below this one.
+    `number` and `name` are those of docs/REFUSALS.md, and `place` says where, or is None. Refusals that programs tell
+    apart have classes of their own below this one.
     """
 
     __module__ = _SHOWN
@@ -163,9 +163,19 @@ class BadPresentation(Refused):
 
 # The numbers of docs/REFUSALS.md that have a class of their own. Every other number is Refused.
 CLASSES: dict[int, type[Refused]] = {
-    4: BindingRefused, 7: AlgorithmRefused, 9: UnknownKey, 10: BadSignature, 22: IssuerRefused, 23: MissingClaim, 25: Expired,
-    26: NotYetValid, **dict.fromkeys(range(27, 39), BindingRefused), 35: NonceDiffers, 36: AudienceDiffers,
-    **dict.fromkeys(range(51, 62), BadOrder), **dict.fromkeys(range(71, 76), BadPresentation),
+    4: BindingRefused,
+    7: AlgorithmRefused,
+    9: UnknownKey,
+    10: BadSignature,
+    22: IssuerRefused,
+    23: MissingClaim,
+    25: Expired,
+    26: NotYetValid,
+    **dict.fromkeys(range(27, 39), BindingRefused),
+    35: NonceDiffers,
+    36: AudienceDiffers,
+    **dict.fromkeys(range(51, 62), BadOrder),
+    **dict.fromkeys(range(71, 76), BadPresentation),
 }
 
 
@@ -202,8 +212,8 @@ class Unreadable(SdJwtError, ValueError):
     def detail(self) -> str:
         """Where it is wrong and why, as `at /keys/keys/0/k: it has = at its end, and is to be written without`.
 
-        It is looked for when it is asked for, in what was given. It has no value of that, since it may be a key, and it is
-        empty where no more is known than `reason` says.
+        It is looked for when it is asked for, in what was given. It has no value of that, since it may be a key, and it
+        is empty where no more is known than `reason` says.
         """
         if not isinstance(self._detail, str):
             self._detail = self._detail(self.reason)
@@ -256,11 +266,15 @@ class TooLong(SdJwtError, ValueError):
 
 
 class NoCryptography(SdJwtError, ImportError):
-    """A policy has public keys, or a private key is to sign, and the package cryptography, which does so, is not installed."""
+    """A policy has public keys, or a private key is to sign, and the package cryptography, which does so, is not
+    installed.
+    """
 
     __module__ = _SHOWN
 
-    def __init__(self, line: str = "sdjwt: a policy with public keys needs the package cryptography: pip install cryptography") -> None:
+    def __init__(
+        self, line: str = "sdjwt: a policy with public keys needs the package cryptography: pip install cryptography"
+    ) -> None:
         super().__init__(line, "")
 
 
@@ -271,6 +285,9 @@ class OutOfMemory(MemoryError):
 
 
 class OutOfStack(RuntimeError):
-    """The thread has less of its stack left than a call may need, as one that was given a small one. The library was not asked."""
+    """The thread has less of its stack left than a call may need, as one that was given a small one.
+
+    The library was not asked.
+    """
 
     __module__ = _SHOWN

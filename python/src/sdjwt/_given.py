@@ -1,6 +1,7 @@
 """What a caller gives, as the bytes and the number that the library takes.
 
-Another type than the documented ones is a TypeError that names the argument, and a value that can mean nothing a ValueError.
+Another type than the documented ones is a TypeError that names the argument, and a value that can mean nothing a
+ValueError.
 """
 from __future__ import annotations
 
@@ -80,7 +81,10 @@ def held_bytes(tokens: object, most: int) -> list[bytes]:
 
 
 def seed_bytes(given: object) -> bytes:
-    """A seed. The library would read its first 32 bytes and pass over the rest, so two long seeds could give the same salts."""
+    """A seed.
+
+    The library would read its first 32 bytes and pass over the rest, so two long seeds could give the same salts.
+    """
     seed = _plain_bytes(given, "seed", "bytes")
     if len(seed) != SEED_LENGTH:
         raise ValueError(f"sdjwt: seed has {len(seed)} bytes, and has to have {SEED_LENGTH}")
@@ -106,7 +110,10 @@ def moment(now: object) -> int:
     if isinstance(now, datetime):
         now = _seconds(now)
     if isinstance(now, bool) or not isinstance(now, (int, float)):
-        raise TypeError(f"sdjwt: now is of type {type(now).__name__}, and has to be seconds since 1970, an int or a float, or a datetime")
+        raise TypeError(
+            f"sdjwt: now is of type {type(now).__name__}, and has to be seconds since 1970, an int or a float, or a "
+            "datetime"
+        )
     if not 0 <= now < 2**64:
         raise ValueError("sdjwt: now is no moment from 0 to 2**64 - 1, in seconds since 1970")
     return int(now)
@@ -114,7 +121,9 @@ def moment(now: object) -> int:
 
 def _seconds(now: datetime) -> int:
     if now.utcoffset() is None:
-        raise ValueError("sdjwt: now is a datetime without a time zone: give an aware one, as datetime.now(timezone.utc)")
+        raise ValueError(
+            "sdjwt: now is a datetime without a time zone: give an aware one, as datetime.now(timezone.utc)"
+        )
     # a float of seconds could be rounded up to the next second
     return (now - datetime(1970, 1, 1, tzinfo=timezone.utc)) // timedelta(seconds=1)
 
@@ -157,7 +166,10 @@ def _plain(value: object) -> dict[Any, Any]:
 
 
 def _has_plain_names(given: Mapping[Any, Any]) -> bool:
-    """Whether each name of a member is a str. JSON would have another one in quotes, where it meets one that stood in quotes."""
+    """Whether each name of a member is a str.
+
+    JSON would have another one in quotes, where it meets one that stood in quotes.
+    """
     left: list[Any] = [given]
     while left:
         value = left.pop()
@@ -170,7 +182,10 @@ def _has_plain_names(given: Mapping[Any, Any]) -> bool:
 
 
 def _stray(given: object) -> str:
-    """The first value or name that JSON does not have, with its place, as `/a/b/0: datetime`. Empty if none is found."""
+    """The first value or name that JSON does not have, with its place, as `/a/b/0: datetime`.
+
+    Empty if none is found.
+    """
     left: list[tuple[int, str, object]] = [(0, "", given)]
     for _ in range(_SEARCHED_MAX):
         if not left:

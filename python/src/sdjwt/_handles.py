@@ -52,8 +52,8 @@ def _with(policy: dict[str, Any], nonce: Optional[str], audience: Optional[str])
 class Handles:
     """The handles of a policy that no call uses.
 
-    `own` are those of the policy as it is. The others are for calls that give a nonce or an audience: each with the audience for
-    which its policy was read, which is None for that of the policy. Their nonce is set for each call anew.
+    `own` are those of the policy as it is. The others are for calls that give a nonce or an audience: each with the
+    audience for which its policy was read, which is None for that of the policy. Their nonce is set for each call anew.
     """
 
     __slots__ = ("_file", "_others", "_policy", "missing", "own")
@@ -101,7 +101,10 @@ class Handles:
 
     def _other(self, nonce: object, audience: object) -> _Entry:
         """A handle with the nonce and for the audience of a call, that no other call uses."""
-        texts = {name: None if value is None else named_text(value, name) for name, value in (("nonce", nonce), ("audience", audience))}
+        texts = {
+            name: None if value is None else named_text(value, name)
+            for name, value in (("nonce", nonce), ("audience", audience))
+        }
         binding = self._binding(texts)
         entry = self._idle(texts["audience"]) or (texts["audience"], self._read_for(texts["audience"]))
         named = texts["nonce"]
@@ -113,10 +116,15 @@ class Handles:
         binding: Optional[dict[str, Any]] = self._read_policy().get("binding")
         if binding is None:
             name = next(name for name, text in given.items() if text is not None)
-            raise ValueError(f"sdjwt: {name} is given, and the policy has no binding, so no key binding token is checked")
+            raise ValueError(
+                f"sdjwt: {name} is given, and the policy has no binding, so no key binding token is checked"
+            )
         for name in self.missing:
             if given[name] is None:
-                raise Unreadable("unreadable 1 wrong binding", f'at /binding: "{_OF_CALLS[name]}" is missing, and the call gives no {name}')
+                raise Unreadable(
+                    "unreadable 1 wrong binding",
+                    f'at /binding: "{_OF_CALLS[name]}" is missing, and the call gives no {name}',
+                )
         return binding
 
     def _read_policy(self) -> dict[str, Any]:

@@ -1,8 +1,8 @@
 """What is inside a token, for people to look at: its parts as JSON, and each digest joined to the claim that it hides.
 
-Nothing is judged here, and no other module uses it. The library takes the token apart; a digest is computed only to show which
-disclosure belongs to it. Broken parts are shown as far as they can be read. What a policy says of the token is the verdict of the
-library: conditions with lower numbers than the one that it names hold (docs/SPECIFICATION.md).
+Nothing is judged here, and no other module uses it. The library takes the token apart; a digest is computed only to
+show which disclosure belongs to it. Broken parts are shown as far as they can be read. What a policy says of the token
+is the verdict of the library: conditions with lower numbers than the one that it names hold (docs/SPECIFICATION.md).
 """
 from __future__ import annotations
 
@@ -22,7 +22,13 @@ _HASHES = {"sha-256": hashlib.sha256, "sha-384": hashlib.sha384, "sha-512": hash
 _USUAL_HASH = "sha-256"
 # How deep JSON is shown. Tokens that the library takes are at most 100 deep.
 DEPTH_MAX = 130
-_TIMES = {"exp": "expires", "nbf": "valid from", "iat": "issued at", "auth_time": "authenticated at", "updated_at": "updated at"}
+_TIMES = {
+    "exp": "expires",
+    "nbf": "valid from",
+    "iat": "issued at",
+    "auth_time": "authenticated at",
+    "updated_at": "updated at",
+}
 _UNITS = (("year", 31_557_600), ("day", 86_400), ("hour", 3600), ("minute", 60), ("second", 1))
 # The conditions of a token, and those of them that only a policy with `binding` judges.
 _CONDITIONS = range(1, 39)
@@ -46,8 +52,8 @@ class Unread(str):
 class Node:
     """A JSON value, or a digest that stands in the place of one.
 
-    `kind` is "object", "array", "value", "digest" or "cut", which is a value that nests too deep. `opened` is the number of the
-    disclosure that gives this value, or that belongs to this digest.
+    `kind` is "object", "array", "value", "digest" or "cut", which is a value that nests too deep. `opened` is the
+    number of the disclosure that gives this value, or that belongs to this digest.
     """
 
     kind: str
@@ -81,7 +87,10 @@ class Jwt(NamedTuple):
 
 
 class Binding(NamedTuple):
-    """A key binding token, and whether its `sd_hash` is the digest of what stands before it. None if this is not known."""
+    """A key binding token, and whether its `sd_hash` is the digest of what stands before it.
+
+    None if this is not known.
+    """
 
     jwt: Jwt
     has_this_hash: Optional[bool]
@@ -101,7 +110,9 @@ class Inside(NamedTuple):
     def length(self) -> int:
         """The length of the compact token."""
         parts = [*self.jwt.texts, *(disclosure.text for disclosure in self.disclosures)]
-        return sum(len(part) + 1 for part in parts) + (0 if self.binding is None else sum(map(len, self.binding.jwt.texts)) + 2)
+        return sum(len(part) + 1 for part in parts) + (
+            0 if self.binding is None else sum(map(len, self.binding.jwt.texts)) + 2
+        )
 
     def hidden(self) -> list[Node]:
         """The digests that no disclosure of the token opens."""
@@ -125,7 +136,7 @@ def decoded(text: str) -> bytes | None:
 
 
 def _number(digits: str) -> int | Number:
-    return int(digits) if len(digits) <= 20 else Number(digits)
+    return int(digits) if len(digits) <= 20 and digits != "-0" else Number(digits)
 
 
 def read(text: str) -> Any:
@@ -159,7 +170,9 @@ def _disclosure(number: int, text: str, hash_name: object) -> Disclosure:
     elif isinstance(said, list) and len(said) == 3 and isinstance(said[1], str):
         found.salt, found.name, found.value = said
     else:
-        found.fault = said if isinstance(said, Unread) else "it is not a list of salt and value, or salt, name and value"
+        found.fault = (
+            said if isinstance(said, Unread) else "it is not a list of salt and value, or salt, name and value"
+        )
     return found
 
 
@@ -177,14 +190,19 @@ def _binding(parts: dict[str, Any], hash_name: object) -> Binding | None:
         return None
     first, second, third = parts["binding"].split(".")
     jwt = _jwt((first, second, third))
-    shown = f"{parts['protected']}.{parts['payload']}.{parts['signature']}~" + "".join(f"{text}~" for text in parts["disclosures"])
+    shown = f"{parts['protected']}.{parts['payload']}.{parts['signature']}~" + "".join(
+        f"{text}~" for text in parts["disclosures"]
+    )
     due = digest_of(shown, hash_name)
     said = jwt.payload.get("sd_hash") if isinstance(jwt.payload, dict) else None
     return Binding(jwt, said == due if due and isinstance(said, str) else None)
 
 
 class _Joiner:
-    """Puts the claims of disclosures where their digests stand. Each is put into one place only, so that the tree stays small."""
+    """Puts the claims of disclosures where their digests stand.
+
+    Each is put into one place only, so that the tree stays small.
+    """
 
     def __init__(self, disclosures: list[Disclosure]) -> None:
         self._left = {one.digest: one for one in reversed(disclosures) if one.digest and not one.fault}
@@ -259,7 +277,9 @@ def times(claims: Any, now: int) -> dict[str, str]:
     """The claims of an object that are times, in words."""
     if not isinstance(claims, dict):
         return {}
-    return {name: f"{means} {in_words(claims[name], now)}" for name, means in _TIMES.items() if is_time(claims.get(name))}
+    return {
+        name: f"{means} {in_words(claims[name], now)}" for name, means in _TIMES.items() if is_time(claims.get(name))
+    }
 
 
 def is_time(value: Any) -> bool:
@@ -306,7 +326,10 @@ class Verdict(NamedTuple):
         names = {int(words[1]): words[2] for words in map(str.split, _explanations()) if words[0] == "refused"}
         policy = self.policy if isinstance(self.policy, dict) else json.loads(self.policy)
         has_binding = "binding" in policy
-        return [Condition(number, names[number], self._state(number, has_binding), self._meaning(number, names)) for number in _CONDITIONS]
+        return [
+            Condition(number, names[number], self._state(number, has_binding), self._meaning(number, names))
+            for number in _CONDITIONS
+        ]
 
     def _state(self, number: int, has_binding: bool) -> str:
         if number in _OF_BINDING and not has_binding:

@@ -1,4 +1,7 @@
-"""The style and the script of the page that `sdjwt-keys inspect --html` writes. The page allows just these two, by their hashes."""
+"""The style and the script of the page that `sdjwt-keys inspect --html` writes.
+
+The page allows just these two, by their hashes.
+"""
 
 STYLE = """
 :root {
@@ -44,7 +47,8 @@ code, .compact, .json, .digest, dd { overflow-wrap: anywhere; }
 .lines path { fill: none; stroke: var(--open); stroke-width: 1.6; opacity: .55; }
 .lines path.on { stroke-width: 3; opacity: 1; }
 .lines circle { fill: var(--open); }
-.block, .card, .sides .column { padding: .7rem .9rem; border-radius: 8px; background: var(--card); border: 1px solid var(--edge); }
+.block, .card, .sides .column { padding: .7rem .9rem; border-radius: 8px; background: var(--card);
+  border: 1px solid var(--edge); }
 .block { margin-bottom: 12px; border-left-width: 4px; }
 .of-header { border-left-color: var(--header); }
 .of-payload { border-left-color: var(--payload); }
@@ -59,8 +63,8 @@ code, .compact, .json, .digest, dd { overflow-wrap: anywhere; }
 .from { font: .78rem system-ui, sans-serif; color: var(--open); white-space: nowrap; }
 .digest { color: var(--closed); }
 .digest.joined { color: var(--open); }
-.unopened { padding: 0 .4em; border-radius: 4px; background: var(--closed-back); color: var(--closed); font: .78rem system-ui, sans-serif;
-  white-space: nowrap; }
+.unopened { padding: 0 .4em; border-radius: 4px; background: var(--closed-back); color: var(--closed);
+  font: .78rem system-ui, sans-serif; white-space: nowrap; }
 .cannot ul { margin: .3rem 0; padding-left: 1.2rem; }
 dl { display: grid; grid-template-columns: auto 1fr; gap: 2px 14px; margin: .3rem 0 12px; }
 dt { font-weight: 600; }

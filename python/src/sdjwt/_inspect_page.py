@@ -1,7 +1,7 @@
 """What is inside a token, as one HTML page that needs no other file.
 
-Each text of the token goes through `_escaped`, so it is text and never markup. The page allows no style and no script but its own
-two, by their hashes, and no request at all.
+Each text of the token goes through `_escaped`, so it is text and never markup. The page allows no style and no script
+but its own two, by their hashes, and no request at all.
 """
 from __future__ import annotations
 
@@ -11,7 +11,21 @@ import html
 from collections.abc import Iterable
 from typing import Any
 
-from sdjwt._inspect import HIDDEN, Binding, Condition, Disclosure, Inside, Jwt, Node, Unread, Verdict, in_words, is_time, signed, times
+from sdjwt._inspect import (
+    HIDDEN,
+    Binding,
+    Condition,
+    Disclosure,
+    Inside,
+    Jwt,
+    Node,
+    Unread,
+    Verdict,
+    in_words,
+    is_time,
+    signed,
+    times,
+)
 from sdjwt._inspect_assets import SCRIPT, STYLE
 from sdjwt._inspect_text import hash_words, letters, value_text
 from sdjwt._program_faults import plain
@@ -25,20 +39,41 @@ _STATES = {"holds": "✓", "fails": "✗", "not judged": "·", "not asked": "·"
 def page(inside: Inside, verdict: Verdict | None) -> str:
     """The page."""
     sections = [_token(inside), _joining(inside), _sides(inside), _binding(inside), _judged(verdict)]
-    return "\n".join([
-        '<!doctype html>', '<html lang="en">', "<head>", '<meta charset="utf-8">',
-        f'<meta http-equiv="Content-Security-Policy" content="{_policy()}">',
-        '<meta name="viewport" content="width=device-width, initial-scale=1">', '<meta name="referrer" content="no-referrer">',
-        '<meta name="color-scheme" content="light dark">', "<title>Inside an SD-JWT</title>", f"<style>{STYLE}</style>", "</head>",
-        "<body>", "<header>", "<h1>Inside an SD-JWT</h1>", _head(inside, verdict), "</header>", "<main>", *filter(None, sections),
-        "</main>", f"<script>{SCRIPT}</script>", "</body>", "</html>", ""])
+    return "\n".join(
+        [
+            '<!doctype html>',
+            '<html lang="en">',
+            "<head>",
+            '<meta charset="utf-8">',
+            f'<meta http-equiv="Content-Security-Policy" content="{_policy()}">',
+            '<meta name="viewport" content="width=device-width, initial-scale=1">',
+            '<meta name="referrer" content="no-referrer">',
+            '<meta name="color-scheme" content="light dark">',
+            "<title>Inside an SD-JWT</title>",
+            f"<style>{STYLE}</style>",
+            "</head>",
+            "<body>",
+            "<header>",
+            "<h1>Inside an SD-JWT</h1>",
+            _head(inside, verdict),
+            "</header>",
+            "<main>",
+            *filter(None, sections),
+            "</main>",
+            f"<script>{SCRIPT}</script>",
+            "</body>",
+            "</html>",
+            "",
+        ]
+    )
 
 
 def _policy() -> str:
     """The Content-Security-Policy: this style and this script, and nothing else."""
     def source(text: str) -> str:
         return f"'sha256-{base64.b64encode(hashlib.sha256(text.encode()).digest()).decode()}'"
-    return f"default-src 'none'; style-src {source(STYLE)}; script-src {source(SCRIPT)}; base-uri 'none'; form-action 'none'"
+    sources = f"style-src {source(STYLE)}; script-src {source(SCRIPT)}"
+    return f"default-src 'none'; {sources}; base-uri 'none'; form-action 'none'"
 
 
 def _escaped(text: str) -> str:
@@ -71,8 +106,12 @@ def _head(inside: Inside, verdict: Verdict | None) -> str:
 def _outcome(verdict: Verdict) -> str:
     if verdict.refused is None:
         return _tag("p", "outcome accepted", "The library accepts the token under the policy that was given.")
-    return _tag("p", "outcome refused", f"The library refuses the token: <code>{_escaped(verdict.refused.line)}</code>. "
-                f"{_escaped(plain(verdict.refused.explanation))}")
+    return _tag(
+        "p",
+        "outcome refused",
+        f"The library refuses the token: <code>{_escaped(verdict.refused.line)}</code>. "
+        f"{_escaped(plain(verdict.refused.explanation))}",
+    )
 
 
 def _section(name: str, title: str, said: str, *content: str) -> str:
@@ -89,8 +128,13 @@ def _token(inside: Inside) -> str:
     legend = [(kind, f"{kind}, {letters(len(text))}") for kind, text in parts]
     legend += [("open", letters(len(inside.disclosures), "disclosure"))] if inside.disclosures else []
     legend += [(kind, f"key binding token, {letters(len(text))}") for kind, text in bound]
-    return _section("token", "The token", "Three parts of a JWT with dots between them, then disclosures with tildes.",
-                    _tag("p", "legend", " ".join(_part(kind, said) for kind, said in legend)), _tag("p", "compact", shown))
+    return _section(
+        "token",
+        "The token",
+        "Three parts of a JWT with dots between them, then disclosures with tildes.",
+        _tag("p", "legend", " ".join(_part(kind, said) for kind, said in legend)),
+        _tag("p", "compact", shown),
+    )
 
 
 def _part(kind: str, text: str) -> str:
@@ -107,11 +151,17 @@ def _joining(inside: Inside) -> str:
         _times(inside.jwt, inside.now),
         _block("signature", "Signature", f"{letters(inside.jwt.signature_length, 'byte')}, not checked here", "")]
     right = [_card(one, numbers, linked) for one in inside.disclosures]
-    columns = _tag("div", "column", "\n".join(left)) + _tag("div", "column", "\n".join(right) or _tag("p", "said", "No disclosure."))
-    return _section("joining", "What is signed, and what opens it",
-                    "The issuer signed the header and the payload. Each digest is the hash of a disclosure, or of nothing that is sent. "
-                    "A line leads from each disclosure to the place of its claim.",
-                    f'<div class="join"><svg class="lines" aria-hidden="true"></svg>{columns}</div>')
+    columns = _tag("div", "column", "\n".join(left)) + _tag(
+        "div", "column", "\n".join(right) or _tag("p", "said", "No disclosure.")
+    )
+    return _section(
+        "joining",
+        "What is signed, and what opens it",
+        "The issuer signed the header and the payload. Each digest is the hash of a disclosure, or of nothing that "
+        "is sent. "
+        "A line leads from each disclosure to the place of its claim.",
+        f'<div class="join"><svg class="lines" aria-hidden="true"></svg>{columns}</div>',
+    )
 
 
 def _block(kind: str, title: str, said: str, content: str) -> str:
@@ -127,8 +177,11 @@ def _card(one: Disclosure, numbers: dict[str, int], linked: set[int]) -> str:
         body = _tag("p", "claim", f"{name} is") + _json(one.value, numbers, linked)
     place = "It fits no digest of this token." if one.place is None else f"Place: <code>{_escaped(one.place)}</code>"
     facts = f"{place}<br>Salt: <code>{_cut(value_text(one.salt))}</code><br>Digest: {_digest(one)}"
-    return (f'<article class="card" id="disclosure-{one.number}" data-disclosure="{one.number}">'
-            f"<h3>Disclosure {one.number} <small>{letters(len(one.text))}</small></h3>{body}{_tag('p', 'facts', facts)}</article>")
+    return (
+        f'<article class="card" id="disclosure-{one.number}" data-disclosure="{one.number}">'
+        f"<h3>Disclosure {one.number} "
+        f"<small>{letters(len(one.text))}</small></h3>{body}{_tag('p', 'facts', facts)}</article>"
+    )
 
 
 def _digest(one: Disclosure) -> str:
@@ -136,7 +189,11 @@ def _digest(one: Disclosure) -> str:
     if not one.digest:
         return "by a hash that is not known"
     text = _escaped(one.digest)
-    return _tag("span", "digest", text) if one.place is None else f'<a class="digest joined" href="#site-{one.number}">{text}</a>'
+    return (
+        _tag("span", "digest", text)
+        if one.place is None
+        else f'<a class="digest joined" href="#site-{one.number}">{text}</a>'
+    )
 
 
 def _json(value: Any, numbers: dict[str, int], linked: set[int]) -> str:
@@ -199,25 +256,50 @@ def _sides(inside: Inside) -> str:
     if hidden:
         count = f"{letters(len(hidden), 'digest')} that no disclosure of this token opens:"
         items = "".join(f"<li>{_tag('span', 'digest', _cut(value_text(node.value)))}</li>" for node in hidden)
-        cannot = f"<p>{count}</p><ul>{items}</ul>" + _tag("p", "said", "Each hides a claim that was kept back, or is a decoy, which "
-                                                        "hides nothing. Nobody can tell which.")
+        cannot = f"<p>{count}</p><ul>{items}</ul>" + _tag(
+            "p",
+            "said",
+            "Each hides a claim that was kept back, or is a decoy, which " "hides nothing. Nobody can tell which.",
+        )
     else:
         cannot = "<p>Nothing: each digest is opened by a disclosure.</p>"
-    sees = _tag("div", "json", _node(inside.joined, None)) if not isinstance(inside.jwt.payload, Unread) else _json(inside.jwt.payload, {}, set())
-    columns = _tag("div", "column", f"<h3>A verifier sees</h3>{sees}") + _tag("div", "column cannot", f"<h3>It can't see</h3>{cannot}")
-    return _section("sides", "What a verifier sees, and what it can't", "The claims with all disclosures of this token put in their "
-                    "places, and the digests that stay closed.", _tag("div", "sides", columns))
+    sees = (
+        _tag("div", "json", _node(inside.joined, None))
+        if not isinstance(inside.jwt.payload, Unread)
+        else _json(inside.jwt.payload, {}, set())
+    )
+    columns = _tag("div", "column", f"<h3>A verifier sees</h3>{sees}") + _tag(
+        "div", "column cannot", f"<h3>It can't see</h3>{cannot}"
+    )
+    return _section(
+        "sides",
+        "What a verifier sees, and what it can't",
+        "The claims with all disclosures of this token put in their " "places, and the digests that stay closed.",
+        _tag("div", "sides", columns),
+    )
 
 
 def _binding(inside: Inside) -> str:
     if inside.binding is None:
-        return _section("binding", "Key binding", "There is no key binding token: whoever has a copy of this token can present it.")
+        return _section(
+            "binding", "Key binding", "There is no key binding token: whoever has a copy of this token can present it."
+        )
     jwt = inside.binding.jwt
-    return _section("binding", "Key binding", "The holder signed this small JWT. It binds the presentation to a verifier (aud), to one "
-                    "request (nonce), to a time (iat), and to this JWT with these disclosures (sd_hash).",
-                    _list("bound", _bound(inside.binding, inside.now)), _tag("div", "sides", "".join(
-                        _tag("div", "column", f"<h3>{title}</h3>{_json(value, {}, set())}")
-                        for title, value in (("Header", jwt.header), ("Payload", jwt.payload)))))
+    return _section(
+        "binding",
+        "Key binding",
+        "The holder signed this small JWT. It binds the presentation to a verifier (aud), to one "
+        "request (nonce), to a time (iat), and to this JWT with these disclosures (sd_hash).",
+        _list("bound", _bound(inside.binding, inside.now)),
+        _tag(
+            "div",
+            "sides",
+            "".join(
+                _tag("div", "column", f"<h3>{title}</h3>{_json(value, {}, set())}")
+                for title, value in (("Header", jwt.header), ("Payload", jwt.payload))
+            ),
+        ),
+    )
 
 
 def _bound(binding: Binding, now: int) -> Iterable[tuple[str, str]]:
@@ -236,13 +318,25 @@ def _judged(verdict: Verdict | None) -> str:
     if verdict is None:
         return ""
     rows = "".join(_condition(condition) for condition in verdict.conditions)
-    remedy = "" if verdict.refused is None else _tag("p", "said", f"What to do: {_escaped(plain(verdict.refused.remedy))}")
-    return _section("policy", "What the policy says", "The library judges the token by these conditions and names the first that fails. "
-                    "Those before it hold, and those after it are not judged. 4 and 27 to 38 are asked only by a policy with "
-                    "<code>binding</code>.", _outcome(verdict), remedy, _tag("ol", "conditions", rows))
+    remedy = (
+        "" if verdict.refused is None else _tag("p", "said", f"What to do: {_escaped(plain(verdict.refused.remedy))}")
+    )
+    return _section(
+        "policy",
+        "What the policy says",
+        "The library judges the token by these conditions and names the first that fails. "
+        "Those before it hold, and those after it are not judged. 4 and 27 to 38 are asked only by a policy with "
+        "<code>binding</code>.",
+        _outcome(verdict),
+        remedy,
+        _tag("ol", "conditions", rows),
+    )
 
 
 def _condition(condition: Condition) -> str:
     state = condition.state.replace(" ", "-")
-    return (f'<li class="{state}"><span class="mark">{_STATES[condition.state]}</span> {condition.number} '
-            f"<b>{condition.name}</b> <small>{condition.state}</small><p>Fails if: {_escaped(plain(condition.meaning))}</p></li>")
+    return (
+        f'<li class="{state}"><span class="mark">{_STATES[condition.state]}</span> {condition.number} '
+        f"<b>{condition.name}</b> <small>{condition.state}</small><p>Fails if: "
+        f"{_escaped(plain(condition.meaning))}</p></li>"
+    )

@@ -11,7 +11,17 @@ from sdjwt._program_files import json_text, visible
 _WARNING = "inspect checks nothing: no signature, no time and no hash is judged. It shows what the token says."
 _NOBODY_KNOWS = "Each hides a claim that was kept back, or is a decoy, which hides nothing: nobody can tell which."
 # SGR codes of ECMA-48. The three parts of the JWT have a colour each.
-_STYLES = {"header": "31", "payload": "35", "signature": "34", "open": "32", "hidden": "33", "dim": "2", "bold": "1", "bad": "1;31", "good": "32"}
+_STYLES = {
+    "header": "31",
+    "payload": "35",
+    "signature": "34",
+    "open": "32",
+    "hidden": "33",
+    "dim": "2",
+    "bold": "1",
+    "bad": "1;31",
+    "good": "32",
+}
 _STATES = {"holds": "good", "fails": "bad", "not judged": "dim", "not asked": "dim"}
 # How many letters of a value are printed.
 _LETTERS_MAX = 72
@@ -67,8 +77,16 @@ def letters(count: int, one: str = "letter") -> str:
 def show(inside: Inside, verdict: Verdict | None, is_coloured: bool, is_full: bool) -> None:
     """Prints what is inside a token, and what the library says of it."""
     painter = _Painter(is_coloured, is_full)
-    sections = [_head(inside), _header(painter, inside), _payload(painter, inside), _signature(painter, inside),
-                _disclosures(painter, inside), _hidden(painter, inside), _binding(painter, inside), _verdict(painter, verdict)]
+    sections = [
+        _head(inside),
+        _header(painter, inside),
+        _payload(painter, inside),
+        _signature(painter, inside),
+        _disclosures(painter, inside),
+        _hidden(painter, inside),
+        _binding(painter, inside),
+        _verdict(painter, verdict),
+    ]
     texts = ["\n".join(lines) for lines in sections]
     print("\n\n".join(text for text in texts if text))
 
@@ -100,7 +118,9 @@ def _json(painter: _Painter, value: Any, said: dict[str, str] | None = None) -> 
 
 
 def _payload(painter: _Painter, inside: Inside) -> Iterator[str]:
-    yield _title(painter, "payload", "payload", f"{letters(len(inside.jwt.texts[1]))}; below are the claims that a verifier sees")
+    yield _title(
+        painter, "payload", "payload", f"{letters(len(inside.jwt.texts[1]))}; below are the claims that a verifier sees"
+    )
     if isinstance(inside.jwt.payload, Unread):
         yield f"  not shown: {inside.jwt.payload}"
         return
@@ -111,9 +131,12 @@ def _tree(painter: _Painter, inside: Inside, node: Node, before: str, said: dict
     """The lines of what is inside a node."""
     if not node.children:
         yield before + ("(nothing)" if node.kind in ("object", "array") else painter.value(node.value))
-    for position, child in enumerate(node.children):
-        is_last = position == len(node.children) - 1
+    # an element that is not shown leaves no gap in the claims
+    position = 0
+    for child in node.children:
+        is_last = child is node.children[-1]
         yield before + painter.paint("dim", "└─ " if is_last else "├─ ") + _line(painter, inside, child, position, said)
+        position += child.kind != "digest"
         if child.children:
             yield from _tree(painter, inside, child, before + painter.paint("dim", "   " if is_last else "│  "), {})
 
@@ -131,7 +154,9 @@ def _line(painter: _Painter, inside: Inside, node: Node, position: int, said: di
         name += "  {}" if node.kind == "object" else "  []"
     if node.opened is not None:
         one = inside.disclosures[node.opened]
-        return painter.paint("open", name) + painter.paint("dim", f"  opened by disclosure {one.number}, digest {painter.digest(one.digest)}")
+        return painter.paint("open", name) + painter.paint(
+            "dim", f"  opened by disclosure {one.number}, digest {painter.digest(one.digest)}"
+        )
     return name + (painter.paint("dim", f"  {said[node.label]}") if node.label in said and node.kind == "value" else "")
 
 
@@ -167,7 +192,12 @@ def _binding(painter: _Painter, inside: Inside) -> Iterator[str]:
     if inside.binding is None:
         return
     jwt = inside.binding.jwt
-    yield _title(painter, "signature", "key binding token", f"{letters(sum(map(len, jwt.texts)) + 2)}; it binds the presentation to this")
+    yield _title(
+        painter,
+        "signature",
+        "key binding token",
+        f"{letters(sum(map(len, jwt.texts)) + 2)}; it binds the presentation to this",
+    )
     yield from _json(painter, jwt.header)
     yield from _json(painter, jwt.payload, times(jwt.payload, inside.now))
     yield f"  {hash_words(inside.binding)}"

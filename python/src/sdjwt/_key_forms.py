@@ -1,7 +1,8 @@
-"""Keys in the forms that people have: PEM, a JWK as a dict or an object of jwcrypto, or an object of the package cryptography.
+"""Keys in the forms that people have: PEM, a JWK as a dict or an object of jwcrypto, or an object of the package
+cryptography.
 
-Each becomes a JWK, or a private key of the package cryptography. A value that is a key in none of these forms stays as it is,
-so that it is refused like any other wrong value. No message has a value of a key in it.
+Each becomes a JWK, or a private key of the package cryptography. A value that is a key in none of these forms stays as
+it is, so that it is refused like any other wrong value. No message has a value of a key in it.
 """
 from __future__ import annotations
 
@@ -28,7 +29,9 @@ def _objects() -> Any:
     try:
         from sdjwt import _objects as module
     except ImportError as missing:
-        raise NoCryptography("sdjwt: a key that is no JWK needs the package cryptography: pip install cryptography") from missing
+        raise NoCryptography(
+            "sdjwt: a key that is no JWK needs the package cryptography: pip install cryptography"
+        ) from missing
     return module
 
 
@@ -77,7 +80,11 @@ def _jwks_of(value: object) -> list[Any]:
 def _is_secret(value: object) -> bool:
     """Whether this is a private key as a PEM or an object. Of a JWK the members say so."""
     pem = pem_of(value)
-    return any(is_secret for _, is_secret in _blocks(pem)) if pem is not None else _is_object(value) and bool(_objects().is_private(value))
+    return (
+        any(is_secret for _, is_secret in _blocks(pem))
+        if pem is not None
+        else _is_object(value) and bool(_objects().is_private(value))
+    )
 
 
 def as_key_set(value: object, place: str) -> object:
@@ -104,7 +111,10 @@ def _several(keys: Any, place: str) -> list[Any]:
         try:
             found += _jwks_of(value)
             if _is_secret(value):
-                warn(f"sdjwt: the key at {place}/{number} is a private key: anyone who can read it can sign. Give the public key only.")
+                warn(
+                    f"sdjwt: the key at {place}/{number} is a private key: anyone who can read it can sign. Give the "
+                    "public key only."
+                )
         except BadKey as fault:
             raise ValueError(f"sdjwt: the key at {place}/{number} can't be read: {fault}") from None
     return found
@@ -122,7 +132,9 @@ def with_key_sets(file: object) -> object:
 
 
 def signing_key(value: object) -> tuple[object, str | None]:
-    """What signs, as an object of the package cryptography if it is given as a PEM or a JWK, and the `alg` that a JWK names."""
+    """What signs, as an object of the package cryptography if it is given as a PEM or a JWK, and the `alg` that a JWK
+    names.
+    """
     pem = pem_of(value)
     if pem is not None:
         secret = [block for block, is_secret in _blocks(pem) if is_secret]
@@ -146,8 +158,8 @@ def signing_key(value: object) -> tuple[object, str | None]:
 def public_jwk(key: PublicKey, kid: Union[bool, str] = False) -> dict[str, str]:
     """The public key as a JWK, of a public or a private key in any form.
 
-    It is what goes into the claim `cnf`, as `{"jwk": public_jwk(key)}`, and into the `keys` of a policy. With `kid=True` it has
-    a `kid`, the thumbprint of the key (RFC 7638); a text is a `kid` of your own.
+    It is what goes into the claim `cnf`, as `{"jwk": public_jwk(key)}`, and into the `keys` of a policy. With
+    `kid=True` it has a `kid`, the thumbprint of the key (RFC 7638); a text is a `kid` of your own.
 
     >>> jwk = {"kty": "OKP", "crv": "Ed25519", "x": "11qYAYKxCrfVS_7TyWQHOg7hcvPapiMlrwIaaPcHURo", "use": "sig"}
     >>> public_jwk(jwk, kid=True)["kid"]
@@ -160,7 +172,10 @@ def public_jwk(key: PublicKey, kid: Union[bool, str] = False) -> dict[str, str]:
         if len(found) != 1:
             raise BadKey(f"it has {len(found)} keys")
         if not isinstance(found[0], dict):
-            raise TypeError(f"sdjwt: key is of type {type(key).__name__}, and has to be a PEM, a JWK or a key of the package cryptography")
+            raise TypeError(
+                f"sdjwt: key is of type {type(key).__name__}, and has to be a PEM, a JWK or a key of the package "
+                "cryptography"
+            )
         public = _public_of(found[0])
     except BadKey as fault:
         raise ValueError(f"sdjwt: key has no public key that is known here: {fault}") from None

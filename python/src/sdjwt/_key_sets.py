@@ -26,8 +26,8 @@ class PrivateKeyWarning(UserWarning):
 class SkippedKey:
     """A key of a policy that was skipped, and why.
 
-    `where` is "keys" for the issuers' set and "binding" for the holders', `index` is the position in the set, counted from 0,
-    and `kid` is the name of the key or None.
+    `where` is "keys" for the issuers' set and "binding" for the holders', `index` is the position in the set, counted
+    from 0, and `kid` is the name of the key or None.
     """
 
     __module__ = "sdjwt"

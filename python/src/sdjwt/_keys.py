@@ -1,8 +1,8 @@
 """Keys, as JWKs (RFC 7517), and the check of a signature under one.
 
-A key serves the algorithms of its type and no other: ES256 is only for P-256, and HS256 only for the type `oct`. So a public
-key is never used as a symmetric one (RFC 8725 section 3.1). Signatures under public keys are checked by the package
-cryptography, which is loaded only if a public key is read; an HMAC is checked by Python's standard library.
+A key serves the algorithms of its type and no other: ES256 is only for P-256, and HS256 only for the type `oct`. So a
+public key is never used as a symmetric one (RFC 8725 section 3.1). Signatures under public keys are checked by the
+package cryptography, which is loaded only if a public key is read; an HMAC is checked by Python's standard library.
 """
 from __future__ import annotations
 
@@ -164,7 +164,8 @@ def number_of(jwk: Mapping[str, Any], name: str) -> int:
 
 
 def find(keys: Iterable[Key], alg: str, kid: str | None, takes_nameless: bool = False) -> Key | None:
-    """The first key that serves the algorithm and, if a name is given, has this name, or has none where that is enough."""
+    """The first key that serves the algorithm and, if a name is given, has this name, or has none where that is enough.
+    """
     for key in keys:
         if alg in key.checks and (kid is None or kid == key.kid or takes_nameless and key.kid is None):
             return key

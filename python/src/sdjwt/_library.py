@@ -17,12 +17,14 @@ _ABI_VERSION = 1
 PATH = os.environ.get("SDJWT_LIBRARY") or str(Path(__file__).resolve().parent / "libsdjwt.so")
 # What a room for answers has at first, in bytes. Most answers are shorter.
 _FIRST_ROOM = 4096
-# The largest room that is kept for the next call. A longer answer has one for itself, which goes with it, so that neither this
-# much memory nor the claims in it stay. It is not cleared: the same claims were in freed memory of Python and of C before.
+# The largest room that is kept for the next call. A longer answer has one for itself, which goes with it, so that
+# neither this much memory nor the claims in it stay. It is not cleared: the same claims were in freed memory of Python
+# and of C before.
 _ROOM_MOST = 65_536
 # How many times as long as what is given an answer may be, where it is not seldom longer than that and 256 bytes.
 _TIMES = {"issue": 4, "issue_ask": 4, "issue_sign": 4, "show": 2, "split": 2, "convert": 2}
-# How many rooms a thread keeps, and how many handles a policy, that no call uses. More are made where calls come between calls.
+# How many rooms a thread keeps, and how many handles a policy, that no call uses. More are made where calls come
+# between calls.
 KEPT = 8
 
 # The most tokens that a wallet may have.
@@ -97,12 +99,13 @@ class _Room:
 class _Rooms(threading.local):
     """The rooms of a thread that no call uses.
 
-    A signal handler, a finalizer and the like may call the package between any two bytecodes of it. So a room is out of this
-    list from before a call writes into it until what was written is copied, and what comes between takes another. Where a
-    call ends by what a handler raised, its room does not come back, and is garbage.
+    A signal handler, a finalizer and the like may call the package between any two bytecodes of it. So a room is out of
+    this list from before a call writes into it until what was written is copied, and what comes between takes another.
+    Where a call ends by what a handler raised, its room does not come back, and is garbage.
     """
 
-    # A thread makes its list in its first call, and not by __init__: what comes between would find an object without one.
+    # A thread makes its list in its first call, and not by __init__: what comes between would find an object without
+    # one.
     free: list[_Room] | None = None
 
 
@@ -198,7 +201,10 @@ class Handle:
         return status, room.text()
 
     def set_nonce(self, nonce: bytes, policy: Callable[[], bytes]) -> int:
-        """Sets the nonce for the calls that follow. `policy` gives the policy with it, for a library that has to read it anew."""
+        """Sets the nonce for the calls that follow.
+
+        `policy` gives the policy with it, for a library that has to read it anew.
+        """
         if _NONCE is None:
             return call("policy_new", addressof(self.held), policy())[0]
         status: int = _NONCE(self.at, nonce, len(nonce))

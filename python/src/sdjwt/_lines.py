@@ -12,8 +12,15 @@ from typing import Any, NamedTuple, Optional
 # The parts of an entry, each with its label.
 PARTS = {"Means": "explanation", "Likely cause": "cause", "What to do": "remedy"}
 # The statuses, each with the form of its lines.
-_LINES = ((1, r"refused (\d+) ([A-Za-z]+)(?: at (.+))?"), (6, r"unreadable ([12]) ([A-Za-z]+(?: [a-z_]+)?)"),
-          (3, r"(unread) (\d+|clock|source)"), (2, r"(usage)"), (4, r"(unwritten)"), (5, r"(memory)"), (8, r"(notAsked)"))
+_LINES = (
+    (1, r"refused (\d+) ([A-Za-z]+)(?: at (.+))?"),
+    (6, r"unreadable ([12]) ([A-Za-z]+(?: [a-z_]+)?)"),
+    (3, r"(unread) (\d+|clock|source)"),
+    (2, r"(usage)"),
+    (4, r"(unwritten)"),
+    (5, r"(memory)"),
+    (8, r"(notAsked)"),
+)
 
 Entries = Mapping[str, Mapping[str, str]]
 

@@ -8,7 +8,12 @@ from typing import Any, Union
 from cryptography.exceptions import UnsupportedAlgorithm
 from cryptography.hazmat.primitives.asymmetric import ec, rsa
 from cryptography.hazmat.primitives.asymmetric.ed25519 import Ed25519PrivateKey, Ed25519PublicKey
-from cryptography.hazmat.primitives.serialization import Encoding, PublicFormat, load_pem_private_key, load_pem_public_key
+from cryptography.hazmat.primitives.serialization import (
+    Encoding,
+    PublicFormat,
+    load_pem_private_key,
+    load_pem_public_key,
+)
 
 from sdjwt._keys import CURVES, BadKey, member_of, number_of
 from sdjwt._signatures import EC, curve_of
@@ -34,7 +39,9 @@ def loaded(block: bytes, is_secret: bool) -> object:
     try:
         return load_pem_private_key(block, None) if is_secret else load_pem_public_key(block)
     except TypeError:
-        raise BadKey("it is encrypted: load it by load_pem_private_key of cryptography, with its password, and give that key") from None
+        raise BadKey(
+            "it is encrypted: load it by load_pem_private_key of cryptography, with its password, and give that key"
+        ) from None
     except (ValueError, UnsupportedAlgorithm):
         raise BadKey(f"it is no PEM of a {'private' if is_secret else 'public'} key") from None
 
@@ -45,7 +52,12 @@ def jwk_of(key: object) -> dict[str, str]:
     if isinstance(public, ec.EllipticCurvePublicKey):
         curve = curve_of(public)
         numbers, size = public.public_numbers(), CURVES[curve][1]
-        return {"kty": "EC", "crv": curve, "x": _encoded(numbers.x.to_bytes(size, "big")), "y": _encoded(numbers.y.to_bytes(size, "big"))}
+        return {
+            "kty": "EC",
+            "crv": curve,
+            "x": _encoded(numbers.x.to_bytes(size, "big")),
+            "y": _encoded(numbers.y.to_bytes(size, "big")),
+        }
     if isinstance(public, Ed25519PublicKey):
         return {"kty": "OKP", "crv": "Ed25519", "x": _encoded(public.public_bytes(Encoding.Raw, PublicFormat.Raw))}
     if isinstance(public, rsa.RSAPublicKey):
@@ -87,7 +99,9 @@ def _private_of(jwk: Mapping[str, Any]) -> PrivateKey:
     e, d = number_of(jwk, "e"), number_of(jwk, "d")
     public = rsa.RSAPublicNumbers(e, number_of(jwk, "n"))
     p, q = _primes(jwk, public.n, e, d)
-    return rsa.RSAPrivateNumbers(p, q, d, rsa.rsa_crt_dmp1(d, p), rsa.rsa_crt_dmq1(d, q), rsa.rsa_crt_iqmp(p, q), public).private_key()
+    return rsa.RSAPrivateNumbers(
+        p, q, d, rsa.rsa_crt_dmp1(d, p), rsa.rsa_crt_dmq1(d, q), rsa.rsa_crt_iqmp(p, q), public
+    ).private_key()
 
 
 def _primes(jwk: Mapping[str, Any], n: int, e: int, d: int) -> tuple[int, int]:

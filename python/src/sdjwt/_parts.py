@@ -31,7 +31,8 @@ def _disclosure(line: str) -> dict[str, Any]:
 
 
 def parted(token: bytes) -> dict[str, Any]:
-    """The strings that a token consists of: `protected`, `payload`, `signature`, `disclosures`, and `binding` or None."""
+    """The strings that a token consists of: `protected`, `payload`, `signature`, `disclosures`, and `binding` or None.
+    """
     parts: dict[str, Any] = {"disclosures": [], "binding": None}
     for line in without_end(answered(*_library.call("split", token))).split("\n"):
         word, said = line.split(" ", 1)

@@ -20,6 +20,7 @@ from sdjwt._asking import (
     read_object,
     skipped_of,
 )
+from sdjwt._disclosed import places_of
 from sdjwt._given import MOST, file_bytes, moment, token_bytes
 from sdjwt._handles import Handles, filled
 from sdjwt._key_forms import as_key_set, with_key_sets
@@ -35,15 +36,18 @@ from sdjwt._types import AsyncKeysFunction, Json, Keys, KeysFunction, Moment
 class Verified:
     """What is known of a token that is accepted.
 
-    `claims` is what `verify` returns, and `header` the protected header. `binding` is the payload of the key binding token, or None
-    if the policy has no `binding`. `key` is the issuer's public key as a JWK, with its `kid` if it has one. It is None if the library
-    checked the signature itself, or if the function `check` did; of a shared key it has no secret.
+    `claims` is what `verify` returns, and `header` is the protected header. `disclosed` are the places in `claims` that
+    disclosures showed, as JSON Pointers in the order of the disclosures. `binding` is the payload of the key binding
+    token, or None if the policy has no `binding`. `key` is the issuer's public key as a JWK, with its `kid` if it has
+    one. It is None if the library checked the signature itself, or if the function `check` did; a shared key is without
+    its secret.
     """
 
     __module__ = "sdjwt"
 
     claims: dict[str, Any]
     header: dict[str, Any]
+    disclosed: tuple[str, ...]
     binding: Optional[dict[str, Any]]
     key: Optional[dict[str, Any]]
 
@@ -51,17 +55,18 @@ class Verified:
 class Policy:
     """A policy that is read once, to verify many tokens. It may be used by many threads at once.
 
-    Its `keys` may have public keys beside those of the kind `oct`, where its `algs` name their algorithms: ES256, ES384,
-    ES512, EdDSA, PS256, RS256 and the like. Signatures under them are checked by the package cryptography. The key of a
-    holder is `cnf.jwk` of the token, or the key of the `keys` of the `binding` that `cnf.kid` names. `binding` may have
-    `algs` of its own, the algorithms of holders; it needs no `keys` if one of these is for public keys. An invalid key is
-    skipped, and `skipped_keys` lists it. In place of a JWK there may be a PEM or a key object, and in place of the set one
-    key or a list of keys. The argument `keys` takes the same for a policy that has none, or a function that is asked for
-    the keys of an issuer, by the claim `iss` of the token and its header, which nobody has verified then.
+    Its `keys` may have public keys beside those of the kind `oct`, where its `algs` name their algorithms: ES256,
+    ES384, ES512, EdDSA, PS256, RS256 and the like. Signatures under them are checked by the package cryptography. The
+    key of a holder is `cnf.jwk` of the token, or the key of the `keys` of the `binding` that `cnf.kid` names. `binding`
+    may have `algs` of its own, the algorithms of holders; it needs no `keys` if one of these is for public keys. An
+    invalid key is skipped, and `skipped_keys` lists it. In place of a JWK there may be a PEM or a key object, and in
+    place of the set one key or a list of keys. The argument `keys` takes the same for a policy that has none, or a
+    function that is asked for the keys of an issuer, by the claim `iss` of the token and its header, which nobody has
+    verified then.
 
-    `check` is a function that is asked of a signature for which no key is here, by a `Question`: it answers True where it
-    is good, False where it is bad, and None where it has no key for it. It is never asked about an HMAC. Both functions may
-    be coroutine functions, for `verify_async` and `check_async`.
+    `check` is a function that is asked of a signature for which no key is here, by a `Question`: it answers True where
+    it is good, False where it is bad, and None where it has no key for it. It is never asked about an HMAC. Both
+    functions may be coroutine functions, for `verify_async` and `check_async`.
 
     >>> key = "dGhlIHRpY2tldCBvZmZpY2Uga2V5LCBub3QgeW91cnM"
     >>> policy = Policy({"keys": {"keys": [{"kty": "oct", "k": key}]}, "require": ["seat"]})
@@ -71,8 +76,8 @@ class Policy:
     Traceback (most recent call last):
     sdjwt.Unreadable: unreadable 1 wrong skew: at /skew: it is a text, and has to be a whole number
 
-    A nonce is for one presentation, so `verify` takes it, and `binding` need not have one. The same holds for `aud`, which
-    the argument `audience` gives.
+    A nonce is for one presentation, so `verify` takes it, and `binding` need not have one. The same holds for `aud`,
+    which the argument `audience` gives.
 
     >>> holder = "YW5vdGhlciBrZXksIHRoZSBvbmUgb2YgdGhlIGhvbGRlcg"
     >>> token = issue({"payload": {"cnf": {"kid": "ada"}}, "key": key})
@@ -116,7 +121,13 @@ class Policy:
         return partial(type(self), keys=functions.keys, check=functions.check), (text,)
 
     def verify(
-        self, token: Json, now: Moment | None = None, *, nonce: str | None = None, audience: str | None = None, most: int = MOST,
+        self,
+        token: Json,
+        now: Moment | None = None,
+        *,
+        nonce: str | None = None,
+        audience: str | None = None,
+        most: int = MOST,
     ) -> dict[str, Any]:
         """The claims of a token that is accepted.
 
@@ -145,27 +156,51 @@ class Policy:
         return claims
 
     def check(
-        self, token: Json, now: Moment | None = None, *, nonce: str | None = None, audience: str | None = None, most: int = MOST,
+        self,
+        token: Json,
+        now: Moment | None = None,
+        *,
+        nonce: str | None = None,
+        audience: str | None = None,
+        most: int = MOST,
     ) -> Verified:
-        """What is known of a token that is accepted: its claims, as `verify` returns them, and its header, key and key binding."""
+        """What is known of a token that is accepted: its claims, as `verify` returns them, its header, key and so on.
+        """
         given = token_bytes(token, most)
         return self._verified(given, finish(self._judged(given, now, nonce, audience, most)))
 
     async def verify_async(
-        self, token: Json, now: Moment | None = None, *, nonce: str | None = None, audience: str | None = None, most: int = MOST,
+        self,
+        token: Json,
+        now: Moment | None = None,
+        *,
+        nonce: str | None = None,
+        audience: str | None = None,
+        most: int = MOST,
     ) -> dict[str, Any]:
-        """`verify` on another thread, so that the event loop goes on. Only here may `check` and `keys` be coroutine functions."""
+        """`verify` on another thread, so that the event loop goes on.
+
+        Only here may `check` and `keys` be coroutine functions.
+        """
         verdict = await finish_async(self._judged(token, now, nonce, audience, most))
         return object_of(answered(verdict.status, verdict.said))
 
     async def check_async(
-        self, token: Json, now: Moment | None = None, *, nonce: str | None = None, audience: str | None = None, most: int = MOST,
+        self,
+        token: Json,
+        now: Moment | None = None,
+        *,
+        nonce: str | None = None,
+        audience: str | None = None,
+        most: int = MOST,
     ) -> Verified:
         """`check` on another thread, as `verify_async` is `verify`."""
         given = token_bytes(token, most)
         return self._verified(given, await finish_async(self._judged(given, now, nonce, audience, most)))
 
-    def _judged(self, token: Json, now: Moment | None, nonce: str | None, audience: str | None, most: int) -> Steps[Verdict]:
+    def _judged(
+        self, token: Json, now: Moment | None, nonce: str | None, audience: str | None, most: int
+    ) -> Steps[Verdict]:
         """The verdict on a token."""
         given, at = token_bytes(token, most), moment(now)
         with self._lender.lent(nonce, audience) as handle:
@@ -178,7 +213,8 @@ class Policy:
         inside = shown(token)
         # without `binding` in the policy, nobody has checked the key binding token
         binding = object_in(inside["binding"].encode(), 1) if self._lender.has_binding else None
-        return Verified(claims, inside["header"], binding, None if verdict.key is None else dict(verdict.key.public))
+        key = None if verdict.key is None else dict(verdict.key.public)
+        return Verified(claims, inside["header"], places_of(inside, claims), binding, key)
 
     @property
     def skipped_keys(self) -> tuple[SkippedKey, ...]:
@@ -195,6 +231,8 @@ def _with_keys(policy: bytes, keys: object) -> bytes:
         return policy
     given = as_key_set(keys, "/keys")
     if not isinstance(given, Mapping):
-        raise TypeError(f"sdjwt: keys is of type {type(keys).__name__}, and has to be a key, several, a key set, or a function")
+        raise TypeError(
+            f"sdjwt: keys is of type {type(keys).__name__}, and has to be a key, several, a key set, or a function"
+        )
     # what is no object is for the library to refuse
     return policy if found is None or is_no_object(policy) else file_bytes({**found, "keys": given}, "policy")

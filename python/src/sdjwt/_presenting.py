@@ -1,7 +1,9 @@
-"""Presenting under the public and symmetric keys of issuers, with a signature of the holder that is made here or by a function.
+"""Presenting under the public and symmetric keys of issuers, with a signature of the holder that is made here or by a
+function.
 
-No rule of SD-JWT stands here. The library asks whether the issuer's signature is good, says what is to be signed, and makes the
-presentation of the signature; what is decided is only under which key the one is checked, and by which algorithm the other is made.
+No rule of SD-JWT stands here. The library asks whether the issuer's signature is good, says what is to be signed, and
+makes the presentation of the signature; what is decided is only under which key the one is checked, and by which
+algorithm the other is made.
 """
 from __future__ import annotations
 
@@ -22,7 +24,9 @@ class Presenting:
 
     __slots__ = ("_checking", "_signer", "file")
 
-    def __init__(self, order: dict[str, Any], check: CheckFunction | AsyncCheckFunction | None, signer: Signer | None) -> None:
+    def __init__(
+        self, order: dict[str, Any], check: CheckFunction | AsyncCheckFunction | None, signer: Signer | None
+    ) -> None:
         self._checking, self._signer = Checking(Functions(check)), signer
         if "keys" in order or check is None:
             _need_keys(order)
@@ -33,7 +37,9 @@ class Presenting:
         rest = {name: value for name, value in order.items() if name != "keys"}
         if "binding" in order:
             if signer is None:
-                raise ValueError("sdjwt: sign is missing, by which the key binding token is made that the order asks for")
+                raise ValueError(
+                    "sdjwt: sign is missing, by which the key binding token is made that the order asks for"
+                )
             if isinstance(order["binding"], dict):
                 rest["binding"] = {**order["binding"], "alg": signer.alg.decode()}
         self.file = json.dumps(rest).encode()
@@ -54,7 +60,9 @@ class Presenting:
         return status, answer
 
 
-def presenting_of(text: bytes, check: CheckFunction | AsyncCheckFunction | None, sign: object, alg: object) -> Presenting | None:
+def presenting_of(
+    text: bytes, check: CheckFunction | AsyncCheckFunction | None, sign: object, alg: object
+) -> Presenting | None:
     """How an order is presented. None where the library does so by itself, with the shared keys of the order."""
     need_function(check)
     is_asked = check is not None or sign is not None

@@ -1,7 +1,7 @@
 """The program sdjwt-keys: SD-JWT on the command line, with public keys.
 
-It reads files and options, calls the package, and prints what the package returns. Its statuses and first lines are those of the
-program sdjwt.
+It reads files and options, calls the package, and prints what the package returns. Its statuses and first lines are
+those of the program sdjwt.
 """
 from __future__ import annotations
 
@@ -35,7 +35,11 @@ if TYPE_CHECKING:
 _MOST = FILE_MAX + 1
 # The status of a program that Ctrl-C ends.
 _INTERRUPTED = 130
-_PROVED = {True: "the library is proved", False: "the library is not proved", None: "it is not known whether the library is proved"}
+_PROVED = {
+    True: "the library is proved",
+    False: "the library is not proved",
+    None: "it is not known whether the library is proved",
+}
 
 
 def _version() -> str:
@@ -73,7 +77,9 @@ def _signer(name: str, key: Signing) -> tuple[Any, str | None]:
         if alg not in key_of(key.shared).checks:
             raise BadKey(f"it can't be used for {alg}")
     except BadKey as fault:
-        raise Fault(UNREADABLE, f"unreadable {shown_name(name)}", f"{shown_name(name)} is no key that signs: {fault}.") from None
+        raise Fault(
+            UNREADABLE, f"unreadable {shown_name(name)}", f"{shown_name(name)} is no key that signs: {fault}."
+        ) from None
     secret = decoded(key.shared["k"])
     return lambda text: hmac.digest(secret, text, MACS[alg].hash_name), alg
 
@@ -194,8 +200,14 @@ def _explain(given: Input, said: argparse.Namespace) -> int:
 
 
 _COMMANDS: dict[str, Callable[[Input, argparse.Namespace], int]] = {
-    "keygen": _keygen, "issue": _issue, "present": _present, "verify": _verify, "inspect": _inspect_token, "show": _show,
-    "convert": _convert, "explain": _explain,
+    "keygen": _keygen,
+    "issue": _issue,
+    "present": _present,
+    "verify": _verify,
+    "inspect": _inspect_token,
+    "show": _show,
+    "convert": _convert,
+    "explain": _explain,
 }
 
 
@@ -242,7 +254,11 @@ def main() -> int:
         status = run(sys.argv[1:])
         sys.stdout.flush()
     except OSError as error:
-        _tell(Fault(UNWRITTEN, "unwritten", f"The output could not be written: {error.strerror}."), [], "--json" in sys.argv)
+        _tell(
+            Fault(UNWRITTEN, "unwritten", f"The output could not be written: {error.strerror}."),
+            [],
+            "--json" in sys.argv,
+        )
         # what is left of the output is not written at the end either
         os._exit(UNWRITTEN)
     except KeyboardInterrupt:

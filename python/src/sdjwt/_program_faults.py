@@ -1,4 +1,6 @@
-"""Why the program sdjwt-keys prints no result: its line, which is that of the program sdjwt if it has one, and what explains it."""
+"""Why the program sdjwt-keys prints no result: its line, which is that of the program sdjwt if it has one, and what
+explains it.
+"""
 from __future__ import annotations
 
 import json
@@ -31,7 +33,9 @@ class Fault(Exception):
     def text(self, width: int | None) -> str:
         """The line, and below it what explains it, in lines of a width."""
         said = self.object()
-        paragraphs = [self.detail, said["explanation"], said["remedy"]] if said["number"] or not self.detail else [self.detail]
+        paragraphs = (
+            [self.detail, said["explanation"], said["remedy"]] if said["number"] or not self.detail else [self.detail]
+        )
         return "\n".join([self.line, *(_filled(plain(paragraph), width) for paragraph in paragraphs if paragraph)])
 
 
@@ -56,8 +60,10 @@ def fault_of(error: BaseException) -> Fault | None:
     if isinstance(error, Unreadable):
         return Fault(UNREADABLE, error.line, error.detail)
     if isinstance(error, NoCryptography):
-        return usage(f"{_without_name(error.line)}. From a wheel: pip install './sdjwt-VERSION-py3-none-PLATFORM.whl[keys]'; "
-                     "on Debian: apt install python3-cryptography")
+        return usage(
+            f"{_without_name(error.line)}. From a wheel: pip install './sdjwt-VERSION-py3-none-PLATFORM.whl[keys]'; "
+            "on Debian: apt install python3-cryptography"
+        )
     if isinstance(error, TooLong):
         return Fault(REFUSED, "refused 1 tooLong")
     if isinstance(error, SdJwtError):

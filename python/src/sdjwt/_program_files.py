@@ -13,7 +13,10 @@ from sdjwt._program_faults import UNREAD, UNWRITTEN, Fault, usage
 # A compact token that stands in the place of a file name. A file of such a name can be written with ./ before it.
 _TOKEN = re.compile(r"e[wy][A-Za-z0-9_-]+\.[A-Za-z0-9_-]+\.[A-Za-z0-9_-]+~\S*")
 # Characters that a terminal obeys, or that turn the direction of text or can't be seen.
-_UNSEEN = re.compile("[\x7f-\x9f\xad\u061c\u180e\u200b-\u200f\u2028-\u202e\u2060-\u206f\ufeff\ufff9-\ufffb\U000e0000-\U000e007f\ud800-\udfff]")
+_UNSEEN = re.compile(
+    "[\x7f-\x9f\xad\u061c\u180e\u200b-\u200f\u2028-\u202e\u2060-\u206f\ufeff\ufff9-\ufffb"
+    "\U000e0000-\U000e007f\ud800-\udfff]"
+)
 # Who may read a file with a private key: its owner only.
 _OWNER_ONLY = 0o600
 
@@ -26,7 +29,10 @@ class Input:
         self._is_taken = False
 
     def content(self, name: str) -> bytes:
-        """The content of a file, or of standard input for the name `-`. Of one that is too long it is a part that is too long."""
+        """The content of a file, or of standard input for the name `-`.
+
+        Of one that is too long it is a part that is too long.
+        """
         try:
             if name != "-":
                 with open(name, "rb") as file:
@@ -34,7 +40,9 @@ class Input:
             return self._standard_input()
         except (OSError, ValueError) as fault:
             reason = fault.strerror if isinstance(fault, OSError) else "this is no name of a file"
-            raise Fault(UNREAD, f"unread {shown_name(name)}", f"{shown_name(name)} could not be read: {reason}.") from None
+            raise Fault(
+                UNREAD, f"unread {shown_name(name)}", f"{shown_name(name)} could not be read: {reason}."
+            ) from None
 
     def _standard_input(self) -> bytes:
         if self._is_taken:
@@ -59,7 +67,10 @@ def shown_name(name: str) -> str:
 
 
 def visible(text: str) -> str:
-    """A JSON text with an escape for each character that a terminal obeys or that nobody sees. Its value stays the same."""
+    """A JSON text with an escape for each character that a terminal obeys or that nobody sees.
+
+    Its value stays the same.
+    """
     return _UNSEEN.sub(_escape, text)
 
 
@@ -70,7 +81,11 @@ def _escape(found: re.Match[str]) -> str:
 
 def json_text(value: object, is_indented: bool = False) -> str:
     """A value as JSON, on one line or indented."""
-    said = json.dumps(value, ensure_ascii=False, indent=2) if is_indented else json.dumps(value, ensure_ascii=False, separators=(",", ":"))
+    said = (
+        json.dumps(value, ensure_ascii=False, indent=2)
+        if is_indented
+        else json.dumps(value, ensure_ascii=False, separators=(",", ":"))
+    )
     return visible(said)
 
 
@@ -96,7 +111,9 @@ def write_new(name: str, text: str, is_secret: bool) -> None:
         with open(made, "w", encoding="utf-8") as file:
             file.write(text)
     except FileExistsError:
-        raise Fault(UNWRITTEN, f"unwritten {shown_name(name)}", f"{shown_name(name)} is there already, and is not overwritten.") from None
+        raise Fault(
+            UNWRITTEN, f"unwritten {shown_name(name)}", f"{shown_name(name)} is there already, and is not overwritten."
+        ) from None
     except (OSError, ValueError) as fault:
         raise unwritten(name, fault) from None
 

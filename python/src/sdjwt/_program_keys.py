@@ -23,7 +23,9 @@ Jwk = dict[str, Any]
 
 
 class Signing(NamedTuple):
-    """A key that signs: a private key, or a symmetric one as a JWK; and the names `alg` and `kid` that its file gives it."""
+    """A key that signs: a private key, or a symmetric one as a JWK; and the names `alg` and `kid` that its file gives
+    it.
+    """
 
     private: PrivateKey | None
     shared: Jwk | None
@@ -32,7 +34,9 @@ class Signing(NamedTuple):
 
 
 def _unreadable(name: str, said: str) -> Fault:
-    return Fault(UNREADABLE, f"unreadable {shown_name(name)}", f"{shown_name(name)} is no key that can be used here: {said}.")
+    return Fault(
+        UNREADABLE, f"unreadable {shown_name(name)}", f"{shown_name(name)} is no key that can be used here: {said}."
+    )
 
 
 def _read(given: Input, name: str) -> bytes | Jwk:

@@ -41,7 +41,14 @@ def private_members(key: Any) -> dict[str, str]:
     numbers = key.private_numbers()
     if public["kty"] == "EC":
         return {"d": _number(numbers.private_value, CURVES[public["crv"]][1])}
-    values = {"d": numbers.d, "p": numbers.p, "q": numbers.q, "dp": numbers.dmp1, "dq": numbers.dmq1, "qi": numbers.iqmp}
+    values = {
+        "d": numbers.d,
+        "p": numbers.p,
+        "q": numbers.q,
+        "dp": numbers.dmp1,
+        "dq": numbers.dmq1,
+        "qi": numbers.iqmp,
+    }
     return {name: _number(value) for name, value in values.items()}
 
 

@@ -44,7 +44,9 @@ def policy_of(given: Input, said: argparse.Namespace) -> dict[str, Any] | bytes:
     if said.policy is not None:
         others = [name for name in _OPTIONS if getattr(said, name) not in (None, [])]
         if others:
-            raise usage(f"--policy and --{others[0].replace('_', '-')} are given; a policy in a file has its own members")
+            raise usage(
+                f"--policy and --{others[0].replace('_', '-')} are given; a policy in a file has its own members"
+            )
         return given.content(said.policy)
     if not said.key:
         raise usage("the key of the issuer is missing: give --key FILE (PEM, JWK or key set), or --policy FILE")
@@ -71,7 +73,9 @@ def _binding_of(given: Input, said: argparse.Namespace, issuers: list[Any]) -> d
 
 
 def _algs_of_holders(issuers: list[Any], holders: list[Any]) -> list[str]:
-    """The algorithms of holders if no option names them: all with public keys, whose keys the issuer puts into the token."""
+    """The algorithms of holders if no option names them: all with public keys, whose keys the issuer puts into the
+    token.
+    """
     only_shared = holders and all(map(is_oct, issuers + holders))
     return algorithms_of(holders) if only_shared else [*PUBLIC, *algorithms_of(list(filter(is_oct, holders)))]
 

@@ -15,7 +15,10 @@ from sdjwt._keys import CURVES, ED25519, RSA, RSA_BITS_MIN, BadKey, Check
 
 # The curves, and the hash that ECDSA takes over each.
 EC: dict[str, tuple[ec.EllipticCurve, hashes.HashAlgorithm]] = {
-    "P-256": (ec.SECP256R1(), hashes.SHA256()), "P-384": (ec.SECP384R1(), hashes.SHA384()), "P-521": (ec.SECP521R1(), hashes.SHA512())}
+    "P-256": (ec.SECP256R1(), hashes.SHA256()),
+    "P-384": (ec.SECP384R1(), hashes.SHA384()),
+    "P-521": (ec.SECP521R1(), hashes.SHA512()),
+}
 _HASHES: dict[str, hashes.HashAlgorithm] = {"256": hashes.SHA256(), "384": hashes.SHA384(), "512": hashes.SHA512()}
 # The field of Ed25519, and the y of every point whose order divides 8 (RFC 8032 section 5.1).
 _FIELD = 2**255 - 19
@@ -85,7 +88,9 @@ def _is_good(key: Any, signature: bytes, text: bytes, *scheme: Any) -> bool:
 
 
 class SigningKey(NamedTuple):
-    """A key that signs: the algorithms that it serves, the one that is meant where none is named, and how it signs by one."""
+    """A key that signs: the algorithms that it serves, the one that is meant where none is named, and how it signs by
+    one.
+    """
 
     names: tuple[str, ...]
     usual: Optional[str]

@@ -1,7 +1,7 @@
 """Issuing with a signature that is made here, with a private key, or by a function of the caller.
 
-No rule of SD-JWT stands here. The library says what is to be signed, and makes the token of the signature; what is decided is
-only by which algorithm a key signs, and that it signs nothing else.
+No rule of SD-JWT stands here. The library says what is to be signed, and makes the token of the signature; what is
+decided is only by which algorithm a key signs, and that it signs nothing else.
 """
 from __future__ import annotations
 
@@ -19,8 +19,8 @@ from sdjwt._steps import Asked, Steps
 if TYPE_CHECKING:
     from sdjwt._signatures import SigningKey
 
-# The length of a signature in bytes, for the algorithms that fix it (RFC 7518 section 3.4, RFC 8037 section 3.1). EdDSA means
-# Ed25519 or Ed448.
+# The length of a signature in bytes, for the algorithms that fix it (RFC 7518 section 3.4, RFC 8037 section 3.1). EdDSA
+# means Ed25519 or Ed448.
 _LENGTHS = {"ES256": (64,), "ES384": (96,), "ES512": (132,), "Ed25519": (64,), "Ed448": (114,), "EdDSA": (64, 114)}
 
 
@@ -48,7 +48,9 @@ class Signer(NamedTuple):
         made, name = signature_bytes((yield Asked(self.sign, "sign", (text,)))), self.alg.decode()
         lengths = _LENGTHS.get(name, (len(made),))
         if len(made) not in lengths:
-            wanted = " or ".join(map(str, lengths)) + (" (r and s, not DER)" if name in ("ES256", "ES384", "ES512") else "")
+            wanted = " or ".join(map(str, lengths)) + (
+                " (r and s, not DER)" if name in ("ES256", "ES384", "ES512") else ""
+            )
             raise ValueError(f"sdjwt: sign returned {len(made)} bytes, but a signature by {name} has {wanted}")
         return made
 
@@ -63,15 +65,20 @@ def signer_of(sign: object, alg: object) -> Signer:
     try:
         from sdjwt import _signatures
     except ImportError as missing:
-        raise NoCryptography("sdjwt: a private key needs the package cryptography: pip install cryptography") from missing
+        raise NoCryptography(
+            "sdjwt: a private key needs the package cryptography: pip install cryptography"
+        ) from missing
     try:
         made, of_key = signing_key(sign)
         key = _signatures.private_key(made)
     except BadKey as fault:
         raise ValueError(f"sdjwt: the key given as sign can't be used: {fault}") from None
     if key is None:
-        raise TypeError(f"sdjwt: sign is of type {type(sign).__name__}, and has to be a private key, of P-256, P-384, P-521, Ed25519 or RSA, "
-                        "as a key of the package cryptography, a PEM or a JWK, or a function")
+        raise TypeError(
+            f"sdjwt: sign is of type {type(sign).__name__}, and has to be a private key, of P-256, P-384, P-521, "
+            "Ed25519 or RSA, "
+            "as a key of the package cryptography, a PEM or a JWK, or a function"
+        )
     return Signer(*_named(key, None if named is None else named.decode(), of_key))
 
 

@@ -1,7 +1,8 @@
-"""Whether the stack of a thread has what a call needs. In C too little of it ends the process, so each call looks before.
+"""Whether the stack of a thread has what a call needs. In C too little of it ends the process, so each call looks
+before.
 
-That a thread has plenty is found out once. Of another one each call asks the processor how much is left, by `getcontext`.
-Both are known on Linux with glibc on x86-64. Elsewhere nobody tells, and no call is refused.
+That a thread has plenty is found out once. Of another one each call asks the processor how much is left, by
+`getcontext`. Both are known on Linux with glibc on x86-64. Elsewhere nobody tells, and no call is refused.
 """
 from __future__ import annotations
 
@@ -12,8 +13,8 @@ from ctypes import byref, c_char, c_int, c_size_t, c_void_p
 
 from sdjwt._errors import OutOfStack
 
-# What has to be left, in bytes. The deepest inputs were seen to take half of it (docs/SCALE.md). The header of the library says
-# that 1 MiB is always enough; a thread that has just this much in all has to be one that can call.
+# What has to be left, in bytes. The deepest inputs were seen to take half of it (docs/SCALE.md). The header of the
+# library says that 1 MiB is always enough; a thread that has just this much in all has to be one that can call.
 NEEDED = 512 * 1024
 # So much is plenty: recursion up to the 1,000 levels that Python allows was seen to take 3 MiB.
 _PLENTY = 4 * 1024 * 1024
@@ -22,7 +23,13 @@ _PLENTY = 4 * 1024 * 1024
 class _Context(ctypes.Structure):
     """The `ucontext_t` of x86-64 (sys/ucontext.h): what `getcontext` writes has 968 bytes."""
 
-    _fields_ = [("flags", c_size_t), ("link", c_void_p), ("stack", c_size_t * 3), ("registers", c_size_t * 23), ("more", c_char * 3072)]
+    _fields_ = [
+        ("flags", c_size_t),
+        ("link", c_void_p),
+        ("stack", c_size_t * 3),
+        ("registers", c_size_t * 23),
+        ("more", c_char * 3072),
+    ]
 
 
 _STACK_POINTER = 15
@@ -49,7 +56,10 @@ _LIBRARY = _load()
 
 
 class _Thread(threading.local):
-    """The address at which the stack of a thread ends, or 0 where it has plenty or nobody tells. None until its first call."""
+    """The address at which the stack of a thread ends, or 0 where it has plenty or nobody tells.
+
+    None until its first call.
+    """
 
     low: int | None = None
 
@@ -84,5 +94,7 @@ def _look(low: int) -> None:
     left = context.registers[_STACK_POINTER] - low
     # below 0 it is not the stack of the thread on which this runs
     if 0 <= left < NEEDED:
-        raise OutOfStack(f"sdjwt: a call needs {NEEDED // 1024} KiB of stack, and this thread has {left // 1024} left: give threads "
-                         "more by threading.stack_size")
+        raise OutOfStack(
+            f"sdjwt: a call needs {NEEDED // 1024} KiB of stack, and this thread has {left // 1024} left: give threads "
+            "more by threading.stack_size"
+        )

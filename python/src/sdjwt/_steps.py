@@ -1,7 +1,7 @@
 """A call in steps, between which functions of the caller are called, such as `check` and `sign`.
 
-The steps are a generator: it yields a function with its arguments, and is sent what the function returned. So the same steps are
-taken by a call that waits, and by a coroutine whose caller gives coroutines.
+The steps are a generator: it yields a function with its arguments, and is sent what the function returned. So the same
+steps are taken by a call that waits, and by a coroutine whose caller gives coroutines.
 """
 from __future__ import annotations
 
@@ -61,11 +61,17 @@ def finish(steps: Steps[Result]) -> Result:
 def _refuse(answer: object, name: str) -> None:
     if inspect.iscoroutine(answer):
         answer.close()
-    raise TypeError(f"sdjwt: {name} is a coroutine function, and this call does not wait for one: await the call whose name ends in _async")
+    raise TypeError(
+        f"sdjwt: {name} is a coroutine function, and this call does not wait for one: await the call whose name ends "
+        "in _async"
+    )
 
 
 async def finish_async(steps: Steps[Result]) -> Result:
-    """The result of steps, which run on other threads. Coroutine functions are awaited here; other functions run on threads too."""
+    """The result of steps, which run on other threads.
+
+    Coroutine functions are awaited here; other functions run on threads too.
+    """
     try:
         reached = await asyncio.to_thread(_next, steps, None)
         while isinstance(reached, Asked):

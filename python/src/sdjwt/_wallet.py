@@ -1,8 +1,9 @@
 """A wallet whose query has public keys of issuers.
 
-No rule of SD-JWT stands here. The library asks for each token whether the issuer's signature is good, which is checked under the
-keys of the query. The tokens with a good one are signed anew, under a key that is drawn for this call, so that the library, which
-knows shared keys, can choose among them. What it shows has the disclosures of the token that it chose.
+No rule of SD-JWT stands here. The library asks for each token whether the issuer's signature is good, which is checked
+under the keys of the query. The tokens with a good one are signed anew, under a key that is drawn for this call, so
+that the library, which knows shared keys, can choose among them. What it shows has the disclosures of the token that it
+chose.
 """
 from __future__ import annotations
 
@@ -41,7 +42,9 @@ class Wallet:
 
     def choose(self, tokens: list[bytes]) -> tuple[int, bytes]:
         """The status, and what a wallet prints or the line."""
-        status, said = _library.call_wallet(self._query, [self._signed_anew(token) if self._is_good(token) else b"" for token in tokens])
+        status, said = _library.call_wallet(
+            self._query, [self._signed_anew(token) if self._is_good(token) else b"" for token in tokens]
+        )
         if status != _library.DONE:
             return status, said
         number, chosen = said.decode().split("\n", 1)
