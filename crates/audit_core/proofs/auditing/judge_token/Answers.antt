@@ -1,4 +1,4 @@
-use Rattle.std.proofs.Common.{inr, refl}
+use Rattle.std.proofs.Common.{inr, refl, arith}
 use Rattle.std.proofs.lemmas.Result.{IfErr-weaker, on_ok_weaker}
 use Rattle.claim_tree.specs.View.{tree_of}
 use Rattle.issuer_core.specs.Order.{order_of}
@@ -60,3 +60,17 @@ returns-clause-differs g c =
     rw c.differs-in-None.ensures
     (written_differs refl (c.in_ok-is_signed_for.ensures.0 c.if-not-branch.false)
     (λ body given w. none body given (written_with (order_of c.args.order) c.in_ok-asked.asked c.args.token.now.parts body given c.in_ok-asked.ensures.asked w)))
+
+-- ---- the parts before the third
+
+pub returns-then-not-branch-clause-counted : goal.returns-then-not-branch-clause-counted
+returns-then-not-branch-clause-counted g c = rw c.differs.ensures (λ late. absurd (omega (arith, late)))
+
+pub returns-then-not-branch-clause-opened : goal.returns-then-not-branch-clause-opened
+returns-then-not-branch-clause-opened g c = rw c.differs.ensures (λ late. absurd (omega (arith, late)))
+
+pub returns-clause-counted : goal.returns-clause-counted
+returns-clause-counted g c = rw c.differs-in-None.ensures (λ late. absurd (omega (arith, late)))
+
+pub returns-clause-opened : goal.returns-clause-opened
+returns-clause-opened g c = rw c.differs-in-None.ensures (λ late. absurd (omega (arith, late)))
