@@ -1,5 +1,5 @@
 -- How many digests an audit looks up: from its steps to its answer.
-use Rattle.std.proofs.Common.{◌≡◌, ℕ, ◌≤◌, List, subst, arith}
+use Rattle.std.proofs.Common.{◌≡◌, ℕ, ◌≤◌, List, inl, inr, subst, arith}
 use Rattle.std.specs.Prelude.{Result, Ok, Err, OnOk, IfErr}
 use Rattle.claim_tree.specs.Tree.{Text, Tree}
 use Rattle.refusals.specs.Lowest.{NoneApplies}
@@ -15,8 +15,8 @@ use Rattle.audit_core.specs.declared.errors.AuditError.{AuditError}
 use Rattle.audit_core.specs.declared.errors.AuditError.TheVariants.{Memory, Order as OnOrder, Token as OnCondition, Part}
 use Rattle.audit_core.specs.Audited.{IsSignedFor, IsWrittenFor, IsAuditedFor}
 use Rattle.audit_core.specs.Audit.{FailsAudit, ContentDiffers, claims_differ, digests_differ, decoys_differ, order_differs}
-use Rattle.audit_core.specs.AuditCalls.{IsAuditRefused, IsBeforeOpening, FromPart, IsAuditUnopened, order_refused, no_token, not_signed, not_written}
-use Rattle.audit_core.specs.AuditSteps.{OnPart, OnOrderRefused}
+use Rattle.audit_core.specs.AuditCalls.{IsAuditRefused, IsBeforeOpening, FromPart, IsAuditCounted, IsSoundCounted, IsAuditedWithin, IsAuditUnopened, order_refused, no_token, not_signed, not_written}
+use Rattle.audit_core.specs.AuditSteps.{IsTokenCounted, IsTokenSoundCounted, IsTokenWithin, OnPart, OnOrderRefused}
 
 -- ---- from a part on
 
@@ -36,11 +36,11 @@ from_part_more first (Err (OnCondition fault)) P Q more h = tt
 from_part_more first (Err (Part k)) P Q more h = λ late. more (h late)
 
 -- no part differs where the order is refused
-pub order_from_part : {A : Type 0} (first : ℕ) (e : AuditError) (o : Order) (P : Type 0) → OnOrderRefused e o → FromPart first (Err {A} e) P
-order_from_part first Memory o P h = tt
-order_from_part first (OnOrder k) o P h = tt
-order_from_part first (OnCondition fault) o P h = tt
-order_from_part first (Part k) o P h = absurd h
+pub order_from_part : (A : Type 0) (first : ℕ) (e : AuditError) (o : Order) (P : Type 0) → OnOrderRefused e o → FromPart {A = A} first (Err e) P
+order_from_part A first Memory o P h = tt
+order_from_part A first (OnOrder k) o P h = tt
+order_from_part A first (OnCondition fault) o P h = tt
+order_from_part A first (Part k) o P h = absurd h
 
 -- ---- where the claims are shown
 
@@ -58,6 +58,19 @@ shown_counted o p g (Err (OnOrder k)) P audited differs h = tt
 shown_counted o p g (Err (OnCondition fault)) P audited differs h = tt
 shown_counted o p g (Err (Part k)) P audited differs h = λ late. h (omega (arith, late)) (late_sound o p g k late differs)
 
+-- ---- from a token to the text that is read as it
+
+module _ (o : Order) (content : Text) (token : Token) (is : IsToken content token) (old new : ℕ) where
+  pub token_counted : IsTokenCounted o token old new → IsAuditCounted o content old new
+  token_counted (body, given, written, many) = (token, is, body, given, written, many)
+
+  pub token_sound_counted : IsTokenSoundCounted o token old new → IsSoundCounted o content old new
+  token_sound_counted (body, given, written, many) = (token, is, body, given, written, many)
+
+  pub token_within : IsTokenWithin o token old new → IsAuditedWithin o content old new
+  token_within (inl same) = inl same
+  token_within (inr (body, given, written, rose)) = inr (token, is, body, given, written, rose)
+
 -- ---- before anything is looked up
 
 module _ (o : Order) (alg : Text) (accepts : Meaning) (content : Text) (same : Type 0) where
@@ -71,6 +84,6 @@ module _ (o : Order) (alg : Text) (accepts : Meaning) (content : Text) (same : T
       → (((body : Tree) (given : List Given) → IsWrittenFor o token.parts body given → ⊥) → same) → IsAuditUnopened o alg accepts content → same
   unopened token passes is unsigned unwritten (order_refused refusal applies) = absurd (passes refusal applies)
   unopened token passes is unsigned unwritten (no_token fault refused) = absurd (not_both content token fault is refused)
-  unopened token passes is unsigned unwritten (not_signed other read no) = unsigned (subst (λ (t : Token). IsSignedFor o alg accepts t → ⊥) (one_token content other token read is) no)
-  unopened token passes is unsigned unwritten (not_written other read no) =
-      unwritten (subst (λ (t : Token). (body : Tree) (given : List Given) → IsWrittenFor o t.parts body given → ⊥) (one_token content other token read is) no)
+  unopened token passes is unsigned unwritten (not_signed other read fails) = unsigned (subst (λ (t : Token). IsSignedFor o alg accepts t → ⊥) (one_token content other token read is) fails)
+  unopened token passes is unsigned unwritten (not_written other read fails) =
+      unwritten (subst (λ (t : Token). (body : Tree) (given : List Given) → IsWrittenFor o t.parts body given → ⊥) (one_token content other token read is) fails)

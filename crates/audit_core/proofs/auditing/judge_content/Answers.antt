@@ -22,5 +22,5 @@ returns-then-not-branch-clause-counted c = rw c.differs.ensures (λ late. rw (c.
 pub returns-in-Err-Memory-clause-counted : goal.returns-in-Err-Memory-clause-counted
 returns-in-Err-Memory-clause-counted c = from_part 3 c.judge_again.result _ (rw (c.bare-content.ensures.body, c.bare-content.ensures.given) at c.in_ok-shows.ensures.counted)
 
-pub returns-clause-counted : goal.returns-clause-counted
-returns-clause-counted c = from_part 3 _ _ (rw (c.bare-content.ensures.body, c.bare-content.ensures.given) at c.in_ok-shows.ensures.counted)
+pub returns-in_default-2-clause-counted : goal.returns-in_default-2-clause-counted
+returns-in_default-2-clause-counted c = from_part 3 _ _ (rw (c.bare-content.ensures.body, c.bare-content.ensures.given) at c.in_ok-shows.ensures.counted)
