@@ -31,10 +31,10 @@ returns-clause-uncounted g c =
 -- ---- the look-ups
 
 pub returns-in-Err-clause-counted : goal.returns-in-Err-clause-counted
-returns-in-Err-clause-counted g c = order_from_part _ 4 c.in-Err.error (order_of c.args.order) _ c.in-Err.ensures.refused
+returns-in-Err-clause-counted g c = order_from_part (Unit {0}) 4 c.in-Err.error (order_of c.args.order) _ c.in-Err.ensures.refused
 
 pub returns-in-Err-clause-opened : goal.returns-in-Err-clause-opened
-returns-in-Err-clause-opened g c = order_from_part _ 3 c.in-Err.error (order_of c.args.order) _ c.in-Err.ensures.refused
+returns-in-Err-clause-opened g c = order_from_part (Unit {0}) 3 c.in-Err.error (order_of c.args.order) _ c.in-Err.ensures.refused
 
 pub returns-clause-counted : goal.returns-clause-counted
 returns-clause-counted g c =
