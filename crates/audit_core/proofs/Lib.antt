@@ -17,6 +17,7 @@ mod NoOthers
 pub mod Parts
 pub mod Verdicts
 mod Askeds
+mod LookedUp
 mod Answering
 mod OneAnswer
 pub mod IssuedHashes

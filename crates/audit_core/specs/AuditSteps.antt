@@ -11,8 +11,9 @@ use Rattle.digest_sites.specs.declared.site.SiteKind.TheVariants.{Member, Elemen
 use Rattle.disclosure.specs.Digest.{hash_name}
 use Rattle.disclosure.specs.declared.digests.HashAlg.{HashAlg}
 use Rattle.json_form.specs.declared.token.Token.{Token}
-use Rattle.rebuild_core.specs.LookUps.{look_ups, RoseWithin}
+use Rattle.rebuild_core.specs.LookUps.{look_ups, counted, RoseWithin}
 use Rattle.rebuild_core.specs.Payload.{without_alg}
+use Rattle.rebuild_core.specs.Soundness.{IsSound}
 use Rattle.issuer_core.specs.declared.errors.IssueError.{IssueError}
 use Rattle.issuer_core.specs.Order.{Order}
 use Rattle.issuer_core.specs.OrderRefusals.{AppliesToOrder, IsLowestRefusal, issue_number}
@@ -61,6 +62,18 @@ IsTokenWithin o token old new =
     (new ≡ old)
     ⊎ ((body : Tree) × (given : List Given) × IsWrittenFor o token.parts body given
     × RoseWithin (look_ups (without_alg body) given) old new)
+
+-- exactly those of what is written
+abbrev pub IsTokenCounted : Order → Token → ℕ → ℕ → Type 0
+IsTokenCounted o token old new =
+    (body : Tree) × (given : List Given) × IsWrittenFor o token.parts body given
+    × (new ≡ counted old (look_ups (without_alg body) given))
+
+-- the same, where it meets the conditions 14 to 21
+abbrev pub IsTokenSoundCounted : Order → Token → ℕ → ℕ → Type 0
+IsTokenSoundCounted o token old new =
+    (body : Tree) × (given : List Given) × IsWrittenFor o token.parts body given
+    × (IsSound (without_alg body) given → new ≡ counted old (look_ups (without_alg body) given))
 
 -- the part that differs; want of memory says nothing
 abbrev pub OnPart : AuditError → (ℕ → Type 0) → Type 0

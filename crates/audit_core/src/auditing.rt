@@ -8,17 +8,18 @@ ghost use Rattle.hmac_sign.specs.Algs.{alg_text};
 ghost use Rattle.digest_sites.specs.Given.{Given as SeenGiven};
 ghost use Rattle.marked_tree.specs.Paths.{Path, is_among};
 ghost use Rattle.rebuild_core.specs.Answer.{IsPayload, ValuesShallow};
-ghost use Rattle.rebuild_core.specs.LookUps.{look_ups, RoseWithin};
+ghost use Rattle.rebuild_core.specs.LookUps.{look_ups, counted, RoseWithin};
 ghost use Rattle.rebuild_core.specs.Payload.{without_alg as without_alg_of};
+ghost use Rattle.rebuild_core.specs.Soundness.{IsSound};
 ghost use Rattle.issuer_core.specs.JudgeCalls.{IsOrderRefused};
 ghost use Rattle.issuer_core.specs.Order.{Order as SeenOrder, order_of};
 ghost use Rattle.issuer_core.specs.OrderRefusals.{AppliesToOrder};
 ghost use Rattle.audit_core.specs.declared.errors.AuditError.{AuditError as SeenError};
 ghost use Rattle.audit_core.specs.Asked.{IsAskedFor};
-ghost use Rattle.audit_core.specs.Audited.{IsAudited, IsAuditedFor, ShowsClaims, HasDigests, HasDecoys};
+ghost use Rattle.audit_core.specs.Audited.{IsAudited, IsAuditedFor, IsSignedFor, IsWrittenFor, ShowsClaims, HasDigests, HasDecoys};
 ghost use Rattle.audit_core.specs.Audit.{PassesAudit, FailsAudit, DiffersIn, ContentDiffers};
-ghost use Rattle.audit_core.specs.AuditCalls.{IsAuditRefused, IsAuditedWithin, IsBeforeOpening};
-ghost use Rattle.audit_core.specs.AuditSteps.{IsTokenWithin, IsWrittenWith, OnOrderRefused, OnPart};
+ghost use Rattle.audit_core.specs.AuditCalls.{IsAuditRefused, IsAuditCounted, IsAuditedWithin, IsAuditUnopened, IsBeforeOpening, IsSoundCounted, FromPart};
+ghost use Rattle.audit_core.specs.AuditSteps.{IsTokenCounted, IsTokenSoundCounted, IsTokenWithin, IsWrittenWith, OnOrderRefused, OnPart};
 ghost use Rattle.audit_core.specs.Found.{AreCounted};
 
 use crate::AuditError;
@@ -189,6 +190,12 @@ fn judge_content(
     ensures differs { IfErr result
         (λ e. (o : SeenOrder) → IsAskedFor o asked.now
         → OnPart e (ContentDiffers o (without_alg_of (tree_of written.body)) written.given)) }
+
+    // the look-ups
+    ensures counted { FromPart 3 result
+        (IsSound (without_alg_of (tree_of written.body)) written.given
+        → steps.new
+        ≡ counted steps.old (look_ups (without_alg_of (tree_of written.body)) written.given)) }
     ensures risen { RoseWithin (look_ups (without_alg_of (tree_of written.body)) written.given)
         steps.old steps.new }
 {
@@ -223,9 +230,20 @@ fn judge_token<K: Checker>(
         (IsAudited (order_of order) alg.now (K.good checker.now) token.now) }
     ensures differs { IfErr result
         (λ e. OnPart e (DiffersIn (order_of order) alg.now (K.good checker.now) token.now)) }
+
+    // the look-ups
+    ensures counted { FromPart 4 result
+        (IsTokenCounted (order_of order) token.now steps.old steps.new) }
+    ensures opened { FromPart 3 result
+        (IsTokenSoundCounted (order_of order) token.now steps.old steps.new) }
     ensures within { IsTokenWithin (order_of order) token.now steps.old steps.new }
     ensures uncounted { (k : ℕ) → k ≤ 2
         → DiffersIn (order_of order) alg.now (K.good checker.now) token.now k
+        → steps.new ≡ steps.old }
+    ensures unsigned { (IsSignedFor (order_of order) alg.now (K.good checker.now) token.now → ⊥)
+        → steps.new ≡ steps.old }
+    ensures unwritten { ((body : SeenTree) (given : List SeenGiven)
+        → IsWrittenFor (order_of order) token.now.parts body given → ⊥)
         → steps.new ≡ steps.old }
 {
     if !is_signed_for(alloc, &order, alg, checker, token)? {
@@ -254,9 +272,16 @@ pub(crate) fn audit_owned<K: Checker>(
         (IsAuditRefused (order_of order) alg.now (K.good checker.now) text.now) }
 
     // the look-ups
+    ensures counted { FromPart 4 result
+        (IsAuditCounted (order_of order) text.now steps.old steps.new) }
+    ensures opened { FromPart 3 result
+        (IsSoundCounted (order_of order) text.now steps.old steps.new) }
+    ensures none_yet { IfErr result (λ e. IsBeforeOpening e → steps.new ≡ steps.old) }
     ensures within { IsAuditedWithin (order_of order) text.now steps.old steps.new }
     ensures uncounted { (error : SeenError) → IsBeforeOpening error
         → FailsAudit (order_of order) alg.now (K.good checker.now) text.now error
+        → steps.new ≡ steps.old }
+    ensures unopened { IsAuditUnopened (order_of order) alg.now (K.good checker.now) text.now
         → steps.new ≡ steps.old }
 {
     let places = match judge_order(alloc, &order) {
@@ -293,10 +318,17 @@ pub fn audit<K: Checker>(
         (IsAuditRefused (order_of order.now) (alg_text alg) (K.good checker.now) text.now) }
 
     // the look-ups
+    ensures counted { FromPart 4 result
+        (IsAuditCounted (order_of order.now) text.now steps.old steps.new) }
+    ensures opened { FromPart 3 result
+        (IsSoundCounted (order_of order.now) text.now steps.old steps.new) }
+    ensures none_yet { IfErr result (λ e. IsBeforeOpening e → steps.new ≡ steps.old) }
     ensures within { IsAuditedWithin (order_of order.now) text.now steps.old steps.new }
     ensures uncounted { (error : SeenError) → IsBeforeOpening error
         → FailsAudit (order_of order.now) (alg_text alg) (K.good checker.now) text.now error
         → steps.new ≡ steps.old }
+    ensures unopened { IsAuditUnopened (order_of order.now) (alg_text alg) (K.good checker.now)
+        text.now → steps.new ≡ steps.old }
 {
     let owned = order.copy(alloc)?;
     audit_owned(alloc, owned, alg.name(), checker, text, steps)

@@ -1,11 +1,11 @@
 // The third part: what a token shows.
-ghost use Rattle.std.specs.Prelude.{◌≡◌, ◌≤◌, ◌<◌, ◌-◌, ◌^◌, ◌↔◌, length, IfOk, IsTrue};
+ghost use Rattle.std.specs.Prelude.{◌≡◌, ◌≤◌, ◌<◌, ◌-◌, ◌^◌, ◌↔◌, length, IfOk, OnOk, IsTrue};
 ghost use Rattle.sd_outside.specs.Limits.{json_depth_max};
 ghost use Rattle.claim_tree.specs.Tree.{depth as depth_of};
 ghost use Rattle.claim_tree.specs.View.{tree_of};
 ghost use Rattle.marked_tree.specs.View.{marked_of};
 ghost use Rattle.rebuild_core.specs.Answer.{IsPayload, ValuesShallow};
-ghost use Rattle.rebuild_core.specs.LookUps.{look_ups, RoseWithin};
+ghost use Rattle.rebuild_core.specs.LookUps.{look_ups, counted, RoseWithin};
 ghost use Rattle.rebuild_core.specs.Opening.{processed};
 ghost use Rattle.rebuild_core.specs.Payload.{without_alg};
 ghost use Rattle.rebuild_core.specs.Soundness.{IsSound};
@@ -38,6 +38,9 @@ pub(crate) fn shows(
         (λ is. IsTrue is
         ↔ (IsSound (tree_of payload) given
         × (processed (tree_of payload) given ≡ marked_of claims.now))) }
+    ensures counted { OnOk result
+        (IsSound (tree_of payload) given
+        → steps.new ≡ counted steps.old (look_ups (tree_of payload) given)) }
     ensures risen { RoseWithin (look_ups (tree_of payload) given) steps.old steps.new }
 {
     match process_seeded(alloc, payload, given, seed, steps) {
