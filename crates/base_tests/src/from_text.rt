@@ -1,4 +1,4 @@
-// What several tests read from texts: paths, values, and values with marks.
+// What several tests read from texts: values, paths, and values with marks.
 ghost use Rattle.std.specs.Prelude.{◌≤◌, length, IfOk};
 ghost use Rattle.sd_outside.specs.Limits.{json_depth_max};
 ghost use Rattle.claim_tree.specs.Tree.{depth};
@@ -7,14 +7,10 @@ ghost use Rattle.marked_tree.specs.Choice.{IsUnmixed};
 ghost use Rattle.marked_tree.specs.Marked.{strip as strip_of};
 ghost use Rattle.marked_tree.specs.View.{marked_of};
 
-use claim_tree::{Path, PathList, Tree, read, read_pointer};
+use claim_tree::{PathList, Tree, read, read_pointer};
 use marked_tree::{Marked, mark};
 use std::alloc::Global;
 use std::test::Fail;
-
-pub(crate) fn path(alloc: Global, pointer: &str) -> Result<Path, Fail> {
-    Ok(read_pointer(alloc, pointer).map_err(|_| "no pointer")?)
-}
 
 // The paths of pointers with blanks between them.
 pub(crate) fn paths_of(alloc: Global, pointers: &str) -> Result<PathList, Fail>
@@ -22,7 +18,7 @@ pub(crate) fn paths_of(alloc: Global, pointers: &str) -> Result<PathList, Fail>
 {
     let mut paths = PathList::new(alloc);
     for pointer in pointers.split(' ') {
-        paths.push(path(alloc, pointer)?)?;
+        paths.push(read_pointer(alloc, pointer).map_err(|_| "no pointer")?)?;
     }
     if paths.len() > 100 {
         return Err("too many pointers")?;

@@ -1,5 +1,5 @@
 // Tests of marked trees: places, marks, and what is left after pruning.
-ghost use Rattle.std.specs.Prelude.{◌≤◌, IfOk};
+ghost use Rattle.std.specs.Prelude.{◌≤◌};
 ghost use Rattle.sd_outside.specs.Limits.{json_depth_max};
 ghost use Rattle.claim_tree.specs.Tree.{depth};
 ghost use Rattle.marked_tree.specs.Marked.{strip as strip_of};
@@ -14,69 +14,54 @@ use std::test::Fail;
 
 const TREE: &str = r#"{"a":{"b":1,"c":2},"d":[1,2,3],"e":null}"#;
 
-// The places of the marks. In closing order they are `/a/b`, `/a`, `/d/0` and `/d/2`.
-const PLACES: &str = "/a /a/b /d/2 /d/0";
-
-fn chosen(alloc: Global, kept: [u32; 4]) -> Result<ChosenSet, Fail> {
+// Whether just this is left of a tree where these marks are kept.
+fn is_left(alloc: Global, marked: &Marked, kept: &[u32], wanted: &str) -> Result<bool, Fail>
+    requires { depth (strip_of (marked_of marked.now)) ≤ json_depth_max }
+{
     let mut chosen = ChosenSet::new(alloc);
     for mark in kept {
-        chosen.add(mark)?;
+        chosen.add(*mark)?;
     }
-    Ok(chosen)
-}
-
-// The tree in which just these marks are kept.
-fn pruned(alloc: Global, kept: [u32; 4]) -> Result<Marked, Fail>
-    ensures shallow { IfOk result (λ marked. depth (strip_of (marked_of marked)) ≤ json_depth_max) }
-{
-    let chosen = chosen(alloc, kept)?;
-    let marked = marked(alloc, TREE, PLACES)?;
-    Ok(prune(alloc, &marked, &chosen)?)
-}
-
-// Its JSON text.
-fn left(alloc: Global, kept: [u32; 4]) -> Result<TextBox, Fail> {
-    let pruned = pruned(alloc, kept)?;
+    let pruned = prune(alloc, marked, &chosen)?;
     let tree = strip(alloc, &pruned)?;
-    Ok(write(alloc, &tree)?)
+    Ok(write(alloc, &tree)?.as_str() == wanted)
+}
+
+// Whether a mark stands at the place of this pointer.
+fn stands_at(alloc: Global, marked: &Marked, mark: u32, wanted: Option<&str>) -> Result<bool, Fail>
+    requires { depth (strip_of (marked_of marked.now)) ≤ json_depth_max }
+{
+    match place_of(alloc, marked, mark)? {
+        Some(path) => Ok(wanted == Some(print_path(alloc, &path)?.as_str())),
+        None => Ok(wanted.is_none()),
+    }
 }
 
 #[test]
 fn what_is_not_kept_is_left_out(rt: HostRuntime) -> Result<(), Fail> {
-    for (kept, shown) in [
-        ([9, 9, 9, 9], r#"{"d":[2],"e":null}"#),
-        ([0, 9, 9, 9], r#"{"d":[2],"e":null}"#),
-        ([1, 9, 9, 9], r#"{"a":{"c":2},"d":[2],"e":null}"#),
-        ([1, 0, 9, 9], r#"{"a":{"b":1,"c":2},"d":[2],"e":null}"#),
-        ([3, 2, 9, 9], r#"{"d":[1,2,3],"e":null}"#),
-        ([0, 3, 1, 2], TREE),
+    let marked = marked(rt.alloc(), TREE, "/a /a/b /d/2 /d/0")?;
+    // in closing order
+    for (mark, place) in [
+        (0, Some("/a/b")),
+        (1, Some("/a")),
+        (2, Some("/d/0")),
+        (3, Some("/d/2")),
+        (4, None),
     ] {
-        assert_eq!(rt; left(rt.alloc(), kept)?.as_str(), shown);
+        assert!(rt; stands_at(rt.alloc(), &marked, mark, place)?, "{mark}");
     }
-    Ok(())
-}
-
-// The pointer to the place of a mark.
-fn place(alloc: Global, marked: &Marked, mark: u32) -> Result<Option<TextBox>, Fail>
-    requires { depth (strip_of (marked_of marked.now)) ≤ json_depth_max }
-{
-    match place_of(alloc, marked, mark)? {
-        Some(path) => Ok(Some(print_path(alloc, &path)?)),
-        None => Ok(None),
-    }
-}
-
-// The same of the tree above.
-fn place_in_tree(alloc: Global, mark: u32) -> Result<Option<TextBox>, Fail> {
-    let marked = marked(alloc, TREE, PLACES)?;
-    place(alloc, &marked, mark)
-}
-
-#[test]
-fn a_mark_has_a_place(rt: HostRuntime) -> Result<(), Fail> {
-    for (mark, wanted) in [(3, Some("/d/2")), (4, None)] {
-        let place = place_in_tree(rt.alloc(), mark)?;
-        assert_eq!(rt; place.as_ref().map(|text| text.as_str()), wanted);
+    for (kept, left) in [
+        ([].as_slice(), r#"{"d":[2],"e":null}"#),
+        ([0].as_slice(), r#"{"d":[2],"e":null}"#),
+        ([1].as_slice(), r#"{"a":{"c":2},"d":[2],"e":null}"#),
+        (
+            [1, 0].as_slice(),
+            r#"{"a":{"b":1,"c":2},"d":[2],"e":null}"#,
+        ),
+        ([3, 2, 9].as_slice(), r#"{"d":[1,2,3],"e":null}"#),
+        ([0, 3, 1, 2].as_slice(), TREE),
+    ] {
+        assert!(rt; is_left(rt.alloc(), &marked, kept, left)?, "{left}");
     }
     Ok(())
 }
@@ -102,33 +87,21 @@ fn the_first_of_a_name_stays(rt: HostRuntime) -> Result<(), Fail> {
     Ok(())
 }
 
-const MARKS: [u32; 6] = [7, 3, u32::MAX, 3, 0, 7];
-
-fn added(alloc: Global) -> Result<ChosenSet, Fail> {
-    let mut set = ChosenSet::new(alloc);
-    for mark in MARKS {
-        set.add(mark)?;
-    }
-    Ok(set)
-}
-
-fn made(alloc: Global) -> Result<ChosenSet, Fail> {
-    let mut marks = Vec::new(alloc);
-    marks.extend_from_slice(&MARKS)?;
-    Ok(ChosenSet::of(alloc, marks)?)
-}
-
-// How many marks a set has, whether it has those that were put into it, and whether others.
-fn told(set: &ChosenSet) -> (usize, [bool; 4], [bool; 2]) {
-    let those = [set.has(0), set.has(3), set.has(7), set.has(u32::MAX)];
-    (set.len(), those, [set.has(1), set.has(8)])
+fn has_those(set: &ChosenSet) -> bool {
+    let those = set.has(0) && set.has(3) && set.has(7) && set.has(u32::MAX);
+    those && set.len() == 4 && !set.has(1) && !set.has(8)
 }
 
 #[test]
 fn sets_keep_each_mark_once(rt: HostRuntime) -> Result<(), Fail> {
-    let wanted = (4, [true; 4], [false; 2]);
-    assert_eq!(rt; told(&added(rt.alloc())?), wanted);
-    assert_eq!(rt; told(&made(rt.alloc())?), wanted);
+    let mut set = ChosenSet::new(rt.alloc());
+    let mut marks = Vec::new(rt.alloc());
+    for mark in [7, 3, u32::MAX, 3, 0, 7] {
+        set.add(mark)?;
+        marks.push(mark)?;
+    }
+    assert!(rt; has_those(&set));
+    assert!(rt; has_those(&ChosenSet::of(rt.alloc(), marks)?));
     Ok(())
 }
 

@@ -1,10 +1,10 @@
 // The two calls of the service, over tokens that it issues itself.
-use crate::{claim_of, token_for};
-use sdjwt_lib::claim_tree::{PathList, read, read_pointer, write};
-use sdjwt_lib::hmac_sign::Hs256Key;
-use sdjwt_lib::issuer_core::{IssueError, refusal_line};
-use sdjwt_lib::sd_outside::TextBox;
-use sdjwt_lib::verifier_core::{VerifyError, fault_line, read_policy};
+use claim_tree::{PathList, read, read_pointer, write};
+use examples_service::{claim_of, token_for};
+use hmac_sign::Hs256Key;
+use issuer_core::{IssueError, refusal_line};
+use sd_outside::TextBox;
+use verifier_core::{VerifyError, fault_line, read_policy};
 use std::alloc::Global;
 use std::test::Fail;
 
@@ -49,7 +49,9 @@ fn answered(
 }
 
 #[test]
-fn a_claim_of_an_issued_token_is_answered(rt: HostRuntime) -> Result<(), Fail> {
+fn a_claim_of_an_issued_token_is_answered_and_an_order_is_refused(
+    rt: HostRuntime,
+) -> Result<(), Fail> {
     let alloc = rt.alloc();
     let token = issued(alloc, "/seat")?;
     let token = token.as_str();
@@ -67,12 +69,6 @@ fn a_claim_of_an_issued_token_is_answered(rt: HostRuntime) -> Result<(), Fail> {
         let found = answered(alloc, policy, token, now, name)?;
         assert_eq!(rt; found.as_str(), answer, "{name} at {now}");
     }
-    Ok(())
-}
-
-#[test]
-fn an_order_is_refused(rt: HostRuntime) -> Result<(), Fail> {
-    let alloc = rt.alloc();
     for (pointer, line) in [
         ("/stand", "refused 55 noSuchPlace at 0"),
         ("/exp", "refused 56 protectedClaim at 0"),

@@ -12,11 +12,11 @@ ghost use Rattle.sdjwt_cli.specs.PresentedValues.{AreShort};
 ghost use Rattle.sdjwt_cli.specs.Presenting.{signing_key};
 ghost use Rattle.sdjwt_cli.specs.Suits.{Suits};
 
-use crate::{Holder, Issuer, issue_present_verify};
 use claim_tree::{Path, write};
 use holder_core::{PresentFile, read_present};
 use issuer_core::{IssueFile, read_order};
 use sd_outside::TextBox;
+use sdjwt_lib::{Holder, Issuer, issue_present_verify};
 use selection_core::{Consent, NeverPlaces};
 use std::alloc::Global;
 use std::test::Fail;
