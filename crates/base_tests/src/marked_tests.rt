@@ -54,10 +54,7 @@ fn what_is_not_kept_is_left_out(rt: HostRuntime) -> Result<(), Fail> {
         ([].as_slice(), r#"{"d":[2],"e":null}"#),
         ([0].as_slice(), r#"{"d":[2],"e":null}"#),
         ([1].as_slice(), r#"{"a":{"c":2},"d":[2],"e":null}"#),
-        (
-            [1, 0].as_slice(),
-            r#"{"a":{"b":1,"c":2},"d":[2],"e":null}"#,
-        ),
+        ([1, 0].as_slice(), r#"{"a":{"b":1,"c":2},"d":[2],"e":null}"#),
         ([3, 2, 9].as_slice(), r#"{"d":[1,2,3],"e":null}"#),
         ([0, 3, 1, 2].as_slice(), TREE),
     ] {

@@ -3,8 +3,8 @@ ghost use Rattle.std.specs.Prelude.{◌≤◌, ◌<◌, ◌-◌, ◌^◌, length
 ghost use Rattle.claim_tree.specs.View.{tree_of};
 ghost use Rattle.rebuild_core.specs.Answer.{IsPayload, ValuesShallow};
 
-use ProcessError::{RepeatedDigest, Unreferenced};
 use crate::from_text::value;
+use ProcessError::{RepeatedDigest, Unreferenced};
 use claim_tree::Tree;
 use digest_index::Steps;
 use digest_sites::{Given, GivenList};

@@ -4,9 +4,9 @@ use examples_service::{claim_of, token_for};
 use hmac_sign::Hs256Key;
 use issuer_core::{IssueError, refusal_line};
 use sd_outside::TextBox;
-use verifier_core::{VerifyError, fault_line, read_policy};
 use std::alloc::Global;
 use std::test::Fail;
+use verifier_core::{VerifyError, fault_line, read_policy};
 
 const PAYLOAD: &str =
     r#"{"iss":"https://tickets.example","exp":1900000000,"hall":"B","seat":{"row":7,"place":12}}"#;
