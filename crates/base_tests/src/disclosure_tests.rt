@@ -1,5 +1,5 @@
 // Tests of disclosures that are read: of the salt, and of why a text is none.
-use DisclosureError::{NotBase64, NotDisclosure, NotJson, NotWhole};
+use disclosure::DisclosureError::{NotBase64, NotDisclosure, NotJson, NotWhole};
 use disclosure::{DisclosureError, read_disclosure};
 use std::alloc::Global;
 

@@ -1,6 +1,6 @@
 // Tests of key sets: of the first key, and of why a value is none.
-use KeySetError::{KeyNotBase64, KeyShort, NotASet};
 use claim_tree::read;
+use hmac_sign::KeySetError::{KeyNotBase64, KeyShort, NotASet};
 use hmac_sign::{Hs256Key, KeySet, KeySetError};
 use std::alloc::Global;
 use std::test::Fail;
@@ -16,8 +16,13 @@ const SET: &str =
 
 // Whether a key is the one of 32 such bytes.
 fn is_of(key: Option<&Hs256Key>, byte: u8) -> bool {
-    let other = Hs256Key::new(&[byte; 32]).map(|other| other.mac("head", "body"));
-    other.is_ok() && key.map(|key| key.mac("head", "body")) == other.ok()
+    let Ok(other) = Hs256Key::new(&[byte; 32]) else {
+        return false;
+    };
+    match key {
+        Some(key) => key.mac("head", "body") == other.mac("head", "body"),
+        None => false,
+    }
 }
 
 #[test]

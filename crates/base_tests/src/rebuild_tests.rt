@@ -4,10 +4,10 @@ ghost use Rattle.claim_tree.specs.View.{tree_of};
 ghost use Rattle.rebuild_core.specs.Answer.{IsPayload, ValuesShallow};
 
 use crate::from_text::value;
-use ProcessError::{RepeatedDigest, Unreferenced};
 use claim_tree::Tree;
 use digest_index::Steps;
 use digest_sites::{Given, GivenList};
+use rebuild_core::ProcessError::{RepeatedDigest, Unreferenced};
 use rebuild_core::{ProcessError, process};
 use sd_outside::TextBox;
 use std::alloc::Global;

@@ -1,7 +1,7 @@
 // Tests of the places where digests stand.
 use crate::from_text::value;
-use SiteKind::{Element, Member};
 use claim_tree::print_path;
+use digest_sites::SiteKind::{Element, Member};
 use digest_sites::{Site, SiteError, SiteKind, SiteList, sites};
 use std::alloc::Global;
 use std::test::Fail;
@@ -17,9 +17,11 @@ fn is_site(alloc: Global, site: &Site, wanted: Words) -> Result<bool, Fail> {
 
 fn are_sites(alloc: Global, list: &SiteList, wanted: &[Words]) -> Result<bool, Fail> {
     for (i, words) in wanted.iter().enumerate() {
-        match list.at(i) {
-            Some(site) if is_site(alloc, site, *words)? => {}
-            _ => return Ok(false),
+        let Some(site) = list.at(i) else {
+            return Ok(false);
+        };
+        if !is_site(alloc, site, *words)? {
+            return Ok(false);
         }
     }
     Ok(list.len() == wanted.len())
@@ -55,8 +57,8 @@ fn sites_are_listed_in_order(rt: HostRuntime) -> Result<(), Fail> {
             [("/10", Element, "a"), ("/11", Member, "b")].as_slice(),
         ),
         (
-            r#"[{"_sd_alg":["_sd"],"_sd":[]},"...","_sd",null]"#,
-            [].as_slice(),
+            r#"[{"_sd_alg":["_sd"],"_sd":[]},"...","_sd",null,{"_sd":["a"]}]"#,
+            [("/4", Member, "a")].as_slice(),
         ),
     ] {
         let tree = value(alloc, text)?;

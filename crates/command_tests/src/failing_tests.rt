@@ -102,13 +102,13 @@ fn a_failure_has_its_status_and_the_objects_serve_again(rt: HostRuntime) -> Resu
         let mut out = sink(alloc, fails[1])?;
         let mut err = sink(alloc, fails[2])?;
         let came = run_twice(alloc, words, &mut cabinet, &mut out, &mut err)?;
-        assert_eq!(rt; came, statuses, "{words} {fails:?}");
-        assert_eq!(rt; out.written(), told.as_bytes(), "{words} {fails:?}");
-        assert_eq!(rt; err.written(), lines.as_bytes(), "{words} {fails:?}");
+        assert_eq!(rt; came, statuses, "{words}");
+        assert_eq!(rt; out.written(), told.as_bytes(), "{words}");
+        assert_eq!(rt; err.written(), lines.as_bytes(), "{words}");
         assert_eq!(rt;
             [cabinet.failures(), out.failures(), err.failures()],
             failures,
-            "{words} {fails:?}"
+            "{words}"
         );
     }
     Ok(())
