@@ -6,10 +6,10 @@ use std::alloc::Global;
 // Whether this text is the salt, or this is why there is none.
 fn is_read_as(alloc: Global, text: &str, wanted: Result<&str, DisclosureError>) -> bool {
     match read_disclosure(alloc, text) {
-        Ok(read) => {
-            let salt = read.salt.as_text().map(|salt| salt.as_str());
-            salt.is_some() && salt == wanted.ok()
-        }
+        Ok(read) => match read.salt.as_text() {
+            Some(salt) => wanted == Ok(salt.as_str()),
+            None => false,
+        },
         Err(error) => wanted == Err(error),
     }
 }

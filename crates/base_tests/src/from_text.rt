@@ -18,7 +18,10 @@ pub(crate) fn paths_of(alloc: Global, pointers: &str) -> Result<PathList, Fail>
 {
     let mut paths = PathList::new(alloc);
     for pointer in pointers.split(' ') {
-        paths.push(read_pointer(alloc, pointer).map_err(|_| "no pointer")?)?;
+        let Ok(path) = read_pointer(alloc, pointer) else {
+            return Err("no pointer")?;
+        };
+        paths.push(path)?;
     }
     if paths.len() > 100 {
         return Err("too many pointers")?;
@@ -30,7 +33,10 @@ pub(crate) fn paths_of(alloc: Global, pointers: &str) -> Result<PathList, Fail>
 pub(crate) fn value(alloc: Global, text: &str) -> Result<Tree, Fail>
     ensures depth { IfOk result (λ tree. depth (tree_of tree) ≤ json_depth_max) }
 {
-    Ok(read(alloc, text.as_bytes()).map_err(|_| "not read")?)
+    match read(alloc, text.as_bytes()) {
+        Ok(tree) => Ok(tree),
+        Err(_) => Err("not read")?,
+    }
 }
 
 // The value of a JSON text with a mark at each of these places.

@@ -1,5 +1,5 @@
 // Tests of marked trees: places, marks, and what is left after pruning.
-ghost use Rattle.std.specs.Prelude.{◌≤◌};
+ghost use Rattle.std.specs.Prelude.{◌≤◌, IfOk};
 ghost use Rattle.sd_outside.specs.Limits.{json_depth_max};
 ghost use Rattle.claim_tree.specs.Tree.{depth};
 ghost use Rattle.marked_tree.specs.Marked.{strip as strip_of};
@@ -14,54 +14,64 @@ use std::test::Fail;
 
 const TREE: &str = r#"{"a":{"b":1,"c":2},"d":[1,2,3],"e":null}"#;
 
-// Whether just this is left of a tree where these marks are kept.
-fn is_left(alloc: Global, marked: &Marked, kept: &[u32], wanted: &str) -> Result<bool, Fail>
-    requires { depth (strip_of (marked_of marked.now)) ≤ json_depth_max }
+// The places of the marks, which have the numbers 1, 0, 3 and 2 in closing order.
+const PLACES: &str = "/a /a/b /d/2 /d/0";
+
+// The tree in which just these marks are kept.
+fn pruned(alloc: Global, kept: &[u32]) -> Result<Marked, Fail>
+    ensures shallow { IfOk result (λ marked. depth (strip_of (marked_of marked)) ≤ json_depth_max) }
 {
-    let mut chosen = ChosenSet::new(alloc);
-    for mark in kept {
-        chosen.add(*mark)?;
-    }
-    let pruned = prune(alloc, marked, &chosen)?;
+    let mut marks = Vec::new(alloc);
+    marks.extend_from_slice(kept)?;
+    let chosen = ChosenSet::of(alloc, marks)?;
+    let marked = marked(alloc, TREE, PLACES)?;
+    Ok(prune(alloc, &marked, &chosen)?)
+}
+
+// Whether just this is left where these marks are kept.
+fn is_left(alloc: Global, kept: &[u32], wanted: &str) -> Result<bool, Fail> {
+    let pruned = pruned(alloc, kept)?;
     let tree = strip(alloc, &pruned)?;
     Ok(write(alloc, &tree)?.as_str() == wanted)
 }
 
 // Whether a mark stands at the place of this pointer.
-fn stands_at(alloc: Global, marked: &Marked, mark: u32, wanted: Option<&str>) -> Result<bool, Fail>
-    requires { depth (strip_of (marked_of marked.now)) ≤ json_depth_max }
-{
-    match place_of(alloc, marked, mark)? {
-        Some(path) => {
-            let place = print_path(alloc, &path)?;
-            Ok(wanted == Some(place.as_str()))
-        }
-        None => Ok(wanted.is_none()),
-    }
+fn stands_at(alloc: Global, mark: u32, wanted: Option<&str>) -> Result<bool, Fail> {
+    let marked = marked(alloc, TREE, PLACES)?;
+    let Some(path) = place_of(alloc, &marked, mark)? else {
+        return Ok(wanted.is_none());
+    };
+    let place = print_path(alloc, &path)?;
+    Ok(wanted == Some(place.as_str()))
 }
 
 #[test]
 fn what_is_not_kept_is_left_out(rt: HostRuntime) -> Result<(), Fail> {
-    let marked = marked(rt.alloc(), TREE, "/a /a/b /d/2 /d/0")?;
-    // in closing order
-    for (mark, place) in [
-        (0, Some("/a/b")),
-        (1, Some("/a")),
-        (2, Some("/d/0")),
-        (3, Some("/d/2")),
-        (4, None),
+    for (kept, left, mark, place) in [
+        ([9].as_slice(), r#"{"d":[2],"e":null}"#, 9, None),
+        ([0].as_slice(), r#"{"d":[2],"e":null}"#, 0, Some("/a/b")),
+        (
+            [1].as_slice(),
+            r#"{"a":{"c":2},"d":[2],"e":null}"#,
+            1,
+            Some("/a"),
+        ),
+        (
+            [1, 0].as_slice(),
+            r#"{"a":{"b":1,"c":2},"d":[2],"e":null}"#,
+            2,
+            Some("/d/0"),
+        ),
+        (
+            [3, 2, 9].as_slice(),
+            r#"{"d":[1,2,3],"e":null}"#,
+            3,
+            Some("/d/2"),
+        ),
+        ([0, 3, 1, 2].as_slice(), TREE, 4, None),
     ] {
-        assert!(rt; stands_at(rt.alloc(), &marked, mark, place)?, "{mark}");
-    }
-    for (kept, left) in [
-        ([9].as_slice(), r#"{"d":[2],"e":null}"#),
-        ([0].as_slice(), r#"{"d":[2],"e":null}"#),
-        ([1].as_slice(), r#"{"a":{"c":2},"d":[2],"e":null}"#),
-        ([1, 0].as_slice(), r#"{"a":{"b":1,"c":2},"d":[2],"e":null}"#),
-        ([3, 2, 9].as_slice(), r#"{"d":[1,2,3],"e":null}"#),
-        ([0, 3, 1, 2].as_slice(), TREE),
-    ] {
-        assert!(rt; is_left(rt.alloc(), &marked, kept, left)?, "{left}");
+        let is_left = is_left(rt.alloc(), kept, left)?;
+        assert!(rt; is_left && stands_at(rt.alloc(), mark, place)?, "{mark}");
     }
     Ok(())
 }
@@ -77,13 +87,18 @@ fn joined(alloc: Global) -> Result<MarkedMap, Fail> {
     Ok(map.with_all(alloc, added)?)
 }
 
+fn is_entry(map: &MarkedMap, i: usize, name: &str, mark: u32) -> bool {
+    match map.entry_at(i) {
+        Some((found, its, _)) => found.as_str() == name && its == Some(mark),
+        None => false,
+    }
+}
+
 #[test]
 fn the_first_of_a_name_stays(rt: HostRuntime) -> Result<(), Fail> {
     let map = joined(rt.alloc())?;
-    for (i, name, mark) in [(0, "", 7), (1, "b", 1), (2, "c", 5)] {
-        let found = map.entry_at(i).map(|(name, mark, _)| (name.as_str(), mark));
-        assert_eq!(rt; found, Some((name, Some(mark))));
-    }
+    let first = is_entry(&map, 0, "", 7);
+    assert!(rt; first && is_entry(&map, 1, "b", 1) && is_entry(&map, 2, "c", 5));
     Ok(())
 }
 
@@ -92,17 +107,33 @@ fn has_those(set: &ChosenSet) -> bool {
     those && set.len() == 4 && !set.has(1) && !set.has(8)
 }
 
+const MARKS: [u32; 6] = [7, 3, u32::MAX, 3, 0, 7];
+
+fn added(alloc: Global) -> Result<ChosenSet, Fail> {
+    let mut set = ChosenSet::new(alloc);
+    for mark in MARKS {
+        set.add(mark)?;
+    }
+    Ok(set)
+}
+
+fn made(alloc: Global) -> Result<ChosenSet, Fail> {
+    let mut marks = Vec::new(alloc);
+    marks.extend_from_slice(&MARKS)?;
+    Ok(ChosenSet::of(alloc, marks)?)
+}
+
 #[test]
 fn sets_keep_each_mark_once(rt: HostRuntime) -> Result<(), Fail> {
-    let mut set = ChosenSet::new(rt.alloc());
-    let mut marks = Vec::new(rt.alloc());
-    for mark in [7, 3, u32::MAX, 3, 0, 7] {
-        set.add(mark)?;
-        marks.push(mark)?;
-    }
-    assert!(rt; has_those(&set));
-    assert!(rt; has_those(&ChosenSet::of(rt.alloc(), marks)?));
+    let added = added(rt.alloc())?;
+    assert!(rt; has_those(&added) && has_those(&made(rt.alloc())?));
     Ok(())
+}
+
+// The mark of an element, where there is one.
+fn mark_at(list: &MarkedList, i: usize) -> Option<Option<u32>> {
+    let (mark, _) = list.at(i)?;
+    Some(mark)
 }
 
 #[test]
@@ -110,8 +141,7 @@ fn elements_keep_their_marks(rt: HostRuntime) -> Result<(), Fail> {
     let mut list = MarkedList::new(rt.alloc());
     list.push(Some(3), Marked::Null)?;
     list.push(None, Marked::Flag(true))?;
-    for (i, mark) in [(0, Some(Some(3))), (1, Some(None)), (2, None)] {
-        assert_eq!(rt; list.at(i).map(|(mark, _)| mark), mark);
-    }
+    let marks = [mark_at(&list, 0), mark_at(&list, 1), mark_at(&list, 2)];
+    assert!(rt; marks == [Some(Some(3)), Some(None), None]);
     Ok(())
 }

@@ -8,6 +8,14 @@ use std::fs;
 use std::fs::File;
 use std::test::Fail;
 
+// Whether these are the first three bytes of a file, and none where the fetch fails.
+fn begins(alloc: Global, cabinet: &mut MemCabinet, name: &str, front: Option<&[u8]>) -> bool {
+    match cabinet.fetch(alloc, name, 3) {
+        Ok(bytes) => front == Some(bytes.bytes()),
+        Err(error) => error == FetchError::Failed && front.is_none(),
+    }
+}
+
 #[test]
 fn a_cabinet_in_memory_gives_what_was_added_last_and_fails_where_it_is_to(
     rt: HostRuntime,
@@ -17,24 +25,18 @@ fn a_cabinet_in_memory_gives_what_was_added_last_and_fails_where_it_is_to(
     cabinet.add("name", b"second")?;
     cabinet.fail_at(1)?;
     cabinet.fail_at(3)?;
+    let second = Some(b"sec".as_slice());
     for (name, front) in [
-        ("name", "sec"),
-        ("name", "fails"),
-        ("name", "sec"),
-        ("name", "fails"),
-        ("other", "fails"),
-        ("name", "sec"),
+        ("name", second),
+        ("name", None),
+        ("name", second),
+        ("name", None),
+        ("other", None),
+        ("name", second),
     ] {
-        match cabinet.fetch(rt.alloc(), name, 3) {
-            Ok(bytes) => {
-                assert_eq!(rt; bytes.bytes(), front.as_bytes());
-            }
-            Err(error) => {
-                assert!(rt; error == FetchError::Failed && front == "fails");
-            }
-        }
+        assert!(rt; begins(rt.alloc(), &mut cabinet, name, front));
     }
-    assert_eq!(rt; cabinet.failures(), 3);
+    assert!(rt; cabinet.failures() == 3);
     Ok(())
 }
 
@@ -45,10 +47,9 @@ fn a_source_in_memory_gives_pieces_and_fails_where_it_is_to(rt: HostRuntime) -> 
     source.fail_at(4)?;
     let mut room = [0u8; 4];
     for answer in [Ok(3), Err(Failed), Ok(3), Ok(1), Err(Failed), Ok(0)] {
-        assert_eq!(rt; source.pull(&mut room), answer);
+        assert!(rt; source.pull(&mut room) == answer);
     }
-    assert_eq!(rt; room[0], b'g');
-    assert_eq!(rt; source.failures(), 2);
+    assert!(rt; room[0] == b'g' && source.failures() == 2);
     Ok(())
 }
 
@@ -62,10 +63,9 @@ fn a_sink_in_memory_takes_what_fits_and_fails_where_it_is_to(rt: HostRuntime) ->
         ("c", Ok(())),
         ("defg", Err(Failed)),
     ] {
-        assert_eq!(rt; sink.put(piece.as_bytes()), answer);
+        assert!(rt; sink.put(piece.as_bytes()) == answer, "{piece}");
     }
-    assert_eq!(rt; sink.written(), b"abcde".as_slice());
-    assert_eq!(rt; sink.failures(), 2);
+    assert!(rt; sink.written() == b"abcde".as_slice() && sink.failures() == 2);
     Ok(())
 }
 
@@ -78,21 +78,38 @@ fn long_content(alloc: Global) -> Result<Vec<u8>, Fail> {
     Ok(content)
 }
 
+// Whether a cabinet answers so many of these bytes, and none where it is to fail.
+fn answers<C: Cabinet>(
+    alloc: Global,
+    cabinet: &mut C,
+    file: (&str, usize),
+    long: &[u8],
+    size: Option<usize>,
+) -> bool {
+    let (name, most) = file;
+    match cabinet.fetch(alloc, name, most) {
+        Ok(bytes) => size == Some(bytes.bytes().len()) && long.starts_with(bytes.bytes()),
+        Err(error) => error == FetchError::Failed && size.is_none(),
+    }
+}
+
 #[test]
 fn files_of_the_host_are_read_in_part_and_in_whole(rt: HostRuntime) -> Result<(), Fail> {
     let long = long_content(rt.alloc())?;
-    fs::write(&rt, "long", long.as_slice())?;
+    let long = long.as_slice();
+    fs::write(&rt, "long", long)?;
     let mut cabinet = HostCabinet::new(&rt);
-    for (most, size) in [(0, 0), (1, 1), (99_999, 99_999), (100_001, 100_000)] {
-        let bytes = cabinet
-            .fetch(rt.alloc(), "long", most)
-            .map_err(|_| "not read")?;
-        assert_eq!(rt; bytes.bytes().len(), size);
-        assert!(rt; long.as_slice().starts_with(bytes.bytes()), "{most}");
-    }
-    for name in ["absent", ".", ""] {
-        let fetched = cabinet.fetch(rt.alloc(), name, 10);
-        assert!(rt; matches!(fetched, Err(FetchError::Failed)), "{name}");
+    for (name, most, size) in [
+        ("long", 0, Some(0)),
+        ("long", 1, Some(1)),
+        ("long", 99_999, Some(99_999)),
+        ("long", 100_001, Some(100_000)),
+        ("absent", 10, None),
+        (".", 10, None),
+        ("", 10, None),
+    ] {
+        let is_so = answers(rt.alloc(), &mut cabinet, (name, most), long, size);
+        assert!(rt; is_so, "{name} {most}");
     }
     Ok(())
 }
@@ -102,13 +119,11 @@ fn streams_of_the_host_give_what_they_have(rt: HostRuntime) -> Result<(), Fail> 
     fs::write(&rt, "given", b"abc".as_slice())?;
     let mut source = HostSource::new(File::open(&rt, "given")?);
     let mut room = [0u8; 2];
-    assert_eq!(rt; source.pull(&mut room), Ok(2));
-    assert_eq!(rt; room, [b'a', b'b']);
-    assert_eq!(rt; source.pull(&mut room), Ok(1));
-    assert_eq!(rt; room[0], b'c');
-    assert_eq!(rt; source.pull(&mut room), Ok(0));
+    let first = source.pull(&mut room) == Ok(2) && room == [b'a', b'b'];
+    let second = source.pull(&mut room) == Ok(1) && room[0] == b'c';
+    assert!(rt; first && second && source.pull(&mut room) == Ok(0));
     let mut closed = HostSource::new(File::create(&rt, "written")?);
-    assert_eq!(rt; closed.pull(&mut room), Err(Failed));
+    assert!(rt; closed.pull(&mut room) == Err(Failed));
     Ok(())
 }
 
@@ -116,10 +131,10 @@ fn streams_of_the_host_give_what_they_have(rt: HostRuntime) -> Result<(), Fail> 
 fn streams_of_the_host_take_whole_pieces_or_fail(rt: HostRuntime) -> Result<(), Fail> {
     let long = long_content(rt.alloc())?;
     let mut sink = HostSink::new(File::create(&rt, "written")?);
-    assert_eq!(rt; sink.put(long.as_slice()), Ok(()));
-    assert_eq!(rt; sink.put(b""), Ok(()));
-    assert_eq!(rt; fs::read(&rt, "written")?.as_slice(), long.as_slice());
+    let put = [sink.put(long.as_slice()), sink.put(b"")];
+    assert!(rt; put == [Ok(()), Ok(())]);
     let mut full = HostSink::new(File::create(&rt, "/dev/full")?);
-    assert_eq!(rt; full.put(b"a"), Err(Failed));
+    assert!(rt; full.put(b"a") == Err(Failed));
+    assert!(rt; fs::read(&rt, "written")?.as_slice() == long.as_slice());
     Ok(())
 }

@@ -92,8 +92,8 @@ fn digests_may_lead_in_a_circle(rt: HostRuntime) -> Result<(), Fail> {
         let mut steps = Steps::new();
         let given = circle(rt.alloc(), count)?;
         let refused = refusal(rt.alloc(), text, &given, &mut steps)?;
-        assert_eq!(rt; refused, Some(error), "{text} {count}");
-        assert_eq!(rt; steps.count(), look_ups, "{text} {count}");
+        let is_so = refused == Some(error) && steps.count() == look_ups;
+        assert!(rt; is_so, "{text} {count}");
     }
     Ok(())
 }

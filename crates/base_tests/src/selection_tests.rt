@@ -36,7 +36,9 @@ fn steps_judged(alloc: Global, want: &str) -> Result<Result<(), AllowError>, Fai
     let address = r#"{"address":{"street":"S","zip":"1"}}"#;
     let marked = marked(alloc, address, "/address /address/street")?;
     let wanted = paths_of(alloc, want)?;
-    let chosen = choose(alloc, &marked, &wanted).map_err(|_| "not chosen")?;
+    let Ok(chosen) = choose(alloc, &marked, &wanted) else {
+        return Err("not chosen")?;
+    };
     Ok(judge_steps(alloc, &marked, &chosen))
 }
 
@@ -46,7 +48,7 @@ fn a_rule_may_count_steps(rt: HostRuntime) -> Result<(), Fail> {
         ("/address/street", Err(AllowError::Refused(0))),
         ("/address", Ok(())),
     ] {
-        assert_eq!(rt; steps_judged(rt.alloc(), want)?, answer);
+        assert!(rt; steps_judged(rt.alloc(), want)? == answer, "{want}");
     }
     Ok(())
 }
