@@ -15,6 +15,15 @@ fn sink(alloc: Global, fails: Option<u64>) -> Result<MemSink, Fail> {
     Ok(sink)
 }
 
+// A cabinet of which this call fails.
+fn failing(alloc: Global, fails: Option<u64>) -> Result<MemCabinet, Fail> {
+    let mut cabinet = cabinet(alloc)?;
+    if let Some(call) = fails {
+        cabinet.fail_at(call)?;
+    }
+    Ok(cabinet)
+}
+
 // The numbers of the statuses of two runs of these words.
 fn run_twice(
     alloc: Global,
@@ -32,37 +41,30 @@ fn run_twice(
 
 const VERIFY: &str = "verify policy token";
 
+// The call that is to fail, of the cabinet, of the output and of the lines of errors.
+type Calls = [Option<u64>; 3];
+
+const FETCH_0: Calls = [Some(0), None, None];
+
+const FETCH_1: Calls = [Some(1), None, None];
+
+const FETCH_2: Calls = [Some(2), None, None];
+
+const OUTPUT_0: Calls = [None, Some(0), None];
+
+const OUTPUT_1: Calls = [None, Some(1), None];
+
+const LINE_0: Calls = [None, None, Some(0)];
+
 #[test]
 fn a_failure_has_its_status_and_the_objects_serve_again(rt: HostRuntime) -> Result<(), Fail> {
     let alloc = rt.alloc();
-    // the call that is to fail, of the cabinet, of the output and of the lines of errors
     for (fails, words, statuses, told, lines, failures) in [
+        (FETCH_0, VERIFY, [3, 0], "{}\n", "unread 1\n", [1, 0, 0]),
+        (FETCH_1, VERIFY, [3, 0], "{}\n", "unread 2\n", [1, 0, 0]),
+        (OUTPUT_0, VERIFY, [4, 0], "{}\n", "unwritten\n", [0, 1, 0]),
         (
-            [Some(0), None, None],
-            VERIFY,
-            [3, 0],
-            "{}\n",
-            "unread 1\n",
-            [1, 0, 0],
-        ),
-        (
-            [Some(1), None, None],
-            VERIFY,
-            [3, 0],
-            "{}\n",
-            "unread 2\n",
-            [1, 0, 0],
-        ),
-        (
-            [None, Some(0), None],
-            VERIFY,
-            [4, 0],
-            "{}\n",
-            "unwritten\n",
-            [0, 1, 0],
-        ),
-        (
-            [None, None, Some(0)],
+            LINE_0,
             "split bad",
             [1, 1],
             "",
@@ -70,45 +72,19 @@ fn a_failure_has_its_status_and_the_objects_serve_again(rt: HostRuntime) -> Resu
             [0, 0, 1],
         ),
         // calls that the first run does not make
-        (
-            [Some(2), None, None],
-            VERIFY,
-            [0, 3],
-            "{}\n",
-            "unread 1\n",
-            [1, 0, 0],
-        ),
-        (
-            [None, Some(1), None],
-            VERIFY,
-            [0, 4],
-            "{}\n",
-            "unwritten\n",
-            [0, 1, 0],
-        ),
-        (
-            [None, None, Some(0)],
-            VERIFY,
-            [0, 0],
-            "{}\n{}\n",
-            "",
-            [0, 0, 0],
-        ),
+        (FETCH_2, VERIFY, [0, 3], "{}\n", "unread 1\n", [1, 0, 0]),
+        (OUTPUT_1, VERIFY, [0, 4], "{}\n", "unwritten\n", [0, 1, 0]),
+        (LINE_0, VERIFY, [0, 0], "{}\n{}\n", "", [0, 0, 0]),
     ] {
-        let mut cabinet = cabinet(alloc)?;
-        if let Some(call) = fails[0] {
-            cabinet.fail_at(call)?;
-        }
+        let mut cabinet = failing(alloc, fails[0])?;
         let mut out = sink(alloc, fails[1])?;
         let mut err = sink(alloc, fails[2])?;
         let came = run_twice(alloc, words, &mut cabinet, &mut out, &mut err)?;
-        assert_eq!(rt; came, statuses, "{words}");
-        assert_eq!(rt; out.written(), told.as_bytes(), "{words}");
-        assert_eq!(rt; err.written(), lines.as_bytes(), "{words}");
-        assert_eq!(rt;
-            [cabinet.failures(), out.failures(), err.failures()],
-            failures,
-            "{words}"
+        let failed = [cabinet.failures(), out.failures(), err.failures()];
+        let is_told = out.written() == told.as_bytes() && err.written() == lines.as_bytes();
+        assert!(rt;
+            is_told && came == statuses && failed == failures,
+            "{words} {lines}"
         );
     }
     Ok(())
