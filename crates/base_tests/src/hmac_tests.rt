@@ -4,7 +4,6 @@ ghost use Rattle.hmac_sign.specs.Agreement.{Agree};
 
 use hmac_sign::{Alg, Checker, FailSigner, Hs256Key, SignError, Signer, hmac, hmac_sha256};
 use std::alloc::Global;
-use std::test::Fail;
 
 // Whether the code begins with these bytes.
 fn is_code(alg: Alg, key: &[u8], text: &[u8], front: &[u8]) -> bool {
@@ -114,23 +113,22 @@ fn failed(alloc: Global, signer: &mut FailSigner) -> (bool, u64) {
     (failed, signer.failures())
 }
 
-#[test]
-fn one_call_fails_and_is_counted(rt: HostRuntime) -> Result<(), Fail> {
+fn fails_once(alloc: Global) -> bool {
     let bytes = [7; 40];
     let Ok(key) = Hs256Key::new(&bytes) else {
-        return Err("the key is short")?;
+        return false;
     };
     let Ok(mut checker) = Hs256Key::new(&bytes) else {
-        return Err("the key is short")?;
+        return false;
     };
     let mut signer = FailSigner::new(key, 1);
-    let accepted = is_accepted(rt.alloc(), &mut signer, &checker);
-    let again = is_accepted_again(rt.alloc(), &mut checker);
-    assert!(rt; accepted == Ok(true) && again == Ok(true));
-    let (second, third) = (
-        failed(rt.alloc(), &mut signer),
-        failed(rt.alloc(), &mut signer),
-    );
-    assert!(rt; second == (true, 1) && third == (false, 1));
-    Ok(())
+    let accepted = is_accepted(alloc, &mut signer, &checker);
+    let again = is_accepted_again(alloc, &mut checker);
+    let (second, third) = (failed(alloc, &mut signer), failed(alloc, &mut signer));
+    accepted == Ok(true) && again == Ok(true) && second == (true, 1) && third == (false, 1)
+}
+
+#[test]
+fn one_call_fails_and_is_counted(rt: HostRuntime) {
+    assert!(rt; fails_once(rt.alloc()));
 }

@@ -8,7 +8,7 @@ ghost use Rattle.marked_tree.specs.View.{marked_of};
 use crate::from_text::marked;
 use claim_tree::{print_path, write};
 use marked_tree::{ChosenSet, Marked, MarkedList, MarkedMap, place_of, prune, strip};
-use sd_outside::TextBox;
+use sd_outside::{NoMemory, TextBox};
 use std::alloc::Global;
 use std::test::Fail;
 
@@ -17,13 +17,17 @@ const TREE: &str = r#"{"a":{"b":1,"c":2},"d":[1,2,3],"e":null}"#;
 // The places of the marks, which have the numbers 1, 0, 3 and 2 in closing order.
 const PLACES: &str = "/a /a/b /d/2 /d/0";
 
+fn made(alloc: Global, kept: &[u32]) -> Result<ChosenSet, NoMemory> {
+    let mut marks = Vec::new(alloc);
+    marks.extend_from_slice(kept)?;
+    ChosenSet::of(alloc, marks)
+}
+
 // The tree in which just these marks are kept.
 fn pruned(alloc: Global, kept: &[u32]) -> Result<Marked, Fail>
     ensures shallow { IfOk result (λ marked. depth (strip_of (marked_of marked)) ≤ json_depth_max) }
 {
-    let mut marks = Vec::new(alloc);
-    marks.extend_from_slice(kept)?;
-    let chosen = ChosenSet::of(alloc, marks)?;
+    let chosen = made(alloc, kept)?;
     let marked = marked(alloc, TREE, PLACES)?;
     Ok(prune(alloc, &marked, &chosen)?)
 }
@@ -77,14 +81,14 @@ fn what_is_not_kept_is_left_out(rt: HostRuntime) -> Result<(), Fail> {
 }
 
 // A member, and some that are put to it.
-fn joined(alloc: Global) -> Result<MarkedMap, Fail> {
+fn joined(alloc: Global) -> Result<MarkedMap, NoMemory> {
     let mut map = MarkedMap::new(alloc);
     map.insert(TextBox::make(alloc, "b")?, Some(1), Marked::Null)?;
     let mut added = Vec::new(alloc);
     for (name, mark) in [("c", 5), ("b", 6), ("", 7), ("c", 8)] {
         added.push((TextBox::make(alloc, name)?, Some(mark), Marked::Null))?;
     }
-    Ok(map.with_all(alloc, added)?)
+    map.with_all(alloc, added)
 }
 
 fn is_entry(map: &MarkedMap, i: usize, name: &str, mark: u32) -> bool {
@@ -94,12 +98,14 @@ fn is_entry(map: &MarkedMap, i: usize, name: &str, mark: u32) -> bool {
     }
 }
 
+fn first_stays(alloc: Global) -> Result<bool, NoMemory> {
+    let map = joined(alloc)?;
+    Ok(is_entry(&map, 0, "", 7) && is_entry(&map, 1, "b", 1) && is_entry(&map, 2, "c", 5))
+}
+
 #[test]
-fn the_first_of_a_name_stays(rt: HostRuntime) -> Result<(), Fail> {
-    let map = joined(rt.alloc())?;
-    let first = is_entry(&map, 0, "", 7);
-    assert!(rt; first && is_entry(&map, 1, "b", 1) && is_entry(&map, 2, "c", 5));
-    Ok(())
+fn the_first_of_a_name_stays(rt: HostRuntime) {
+    assert!(rt; first_stays(rt.alloc()) == Ok(true));
 }
 
 fn has_those(set: &ChosenSet) -> bool {
@@ -109,7 +115,7 @@ fn has_those(set: &ChosenSet) -> bool {
 
 const MARKS: [u32; 6] = [7, 3, u32::MAX, 3, 0, 7];
 
-fn added(alloc: Global) -> Result<ChosenSet, Fail> {
+fn added(alloc: Global) -> Result<ChosenSet, NoMemory> {
     let mut set = ChosenSet::new(alloc);
     for mark in MARKS {
         set.add(mark)?;
@@ -117,17 +123,15 @@ fn added(alloc: Global) -> Result<ChosenSet, Fail> {
     Ok(set)
 }
 
-fn made(alloc: Global) -> Result<ChosenSet, Fail> {
-    let mut marks = Vec::new(alloc);
-    marks.extend_from_slice(&MARKS)?;
-    Ok(ChosenSet::of(alloc, marks)?)
+fn are_kept_once(alloc: Global) -> Result<bool, NoMemory> {
+    let made = made(alloc, &MARKS)?;
+    let added = added(alloc)?;
+    Ok(has_those(&made) && has_those(&added))
 }
 
 #[test]
-fn sets_keep_each_mark_once(rt: HostRuntime) -> Result<(), Fail> {
-    let added = added(rt.alloc())?;
-    assert!(rt; has_those(&added) && has_those(&made(rt.alloc())?));
-    Ok(())
+fn sets_keep_each_mark_once(rt: HostRuntime) {
+    assert!(rt; are_kept_once(rt.alloc()) == Ok(true));
 }
 
 // The mark of an element, where there is one.
@@ -136,12 +140,14 @@ fn mark_at(list: &MarkedList, i: usize) -> Option<Option<u32>> {
     Some(mark)
 }
 
-#[test]
-fn elements_keep_their_marks(rt: HostRuntime) -> Result<(), Fail> {
-    let mut list = MarkedList::new(rt.alloc());
+fn marks(alloc: Global) -> Result<[Option<Option<u32>>; 3], NoMemory> {
+    let mut list = MarkedList::new(alloc);
     list.push(Some(3), Marked::Null)?;
     list.push(None, Marked::Flag(true))?;
-    let marks = [mark_at(&list, 0), mark_at(&list, 1), mark_at(&list, 2)];
-    assert!(rt; marks == [Some(Some(3)), Some(None), None]);
-    Ok(())
+    Ok([mark_at(&list, 0), mark_at(&list, 1), mark_at(&list, 2)])
+}
+
+#[test]
+fn elements_keep_their_marks(rt: HostRuntime) {
+    assert!(rt; marks(rt.alloc()) == Ok([Some(Some(3)), Some(None), None]));
 }

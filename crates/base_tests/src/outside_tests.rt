@@ -1,12 +1,22 @@
 // Tests of what lies outside, in memory and on the host.
 use sd_outside::{
     Cabinet, Failed, FetchError, HostCabinet, HostSink, HostSource, MemCabinet, MemSink, MemSource,
-    Sink, Source,
+    NoMemory, Sink, Source,
 };
 use std::alloc::Global;
 use std::fs;
 use std::fs::File;
 use std::test::Fail;
+
+// A cabinet with a file that was added twice, of which two fetches fail.
+fn cabinet(alloc: Global) -> Result<MemCabinet, NoMemory> {
+    let mut cabinet = MemCabinet::new(alloc);
+    cabinet.add("name", b"first")?;
+    cabinet.add("name", b"second")?;
+    cabinet.fail_at(1)?;
+    cabinet.fail_at(3)?;
+    Ok(cabinet)
+}
 
 // Whether these are the first three bytes of a file, and none where the fetch fails.
 fn begins(alloc: Global, cabinet: &mut MemCabinet, name: &str, front: Option<&[u8]>) -> bool {
@@ -16,15 +26,8 @@ fn begins(alloc: Global, cabinet: &mut MemCabinet, name: &str, front: Option<&[u
     }
 }
 
-#[test]
-fn a_cabinet_in_memory_gives_what_was_added_last_and_fails_where_it_is_to(
-    rt: HostRuntime,
-) -> Result<(), Fail> {
-    let mut cabinet = MemCabinet::new(rt.alloc());
-    cabinet.add("name", b"first")?;
-    cabinet.add("name", b"second")?;
-    cabinet.fail_at(1)?;
-    cabinet.fail_at(3)?;
+fn is_cabinet(alloc: Global) -> Result<bool, NoMemory> {
+    let mut cabinet = cabinet(alloc)?;
     let second = Some(b"sec".as_slice());
     for (name, front) in [
         ("name", second),
@@ -34,28 +37,38 @@ fn a_cabinet_in_memory_gives_what_was_added_last_and_fails_where_it_is_to(
         ("other", None),
         ("name", second),
     ] {
-        assert!(rt; begins(rt.alloc(), &mut cabinet, name, front));
+        if !begins(alloc, &mut cabinet, name, front) {
+            return Ok(false);
+        }
     }
-    assert!(rt; cabinet.failures() == 3);
-    Ok(())
+    Ok(cabinet.failures() == 3)
 }
 
 #[test]
-fn a_source_in_memory_gives_pieces_and_fails_where_it_is_to(rt: HostRuntime) -> Result<(), Fail> {
-    let mut source = MemSource::new(rt.alloc(), b"abcdefg", 3)?;
+fn a_cabinet_in_memory_gives_what_was_added_last_and_fails_where_it_is_to(rt: HostRuntime) {
+    assert!(rt; is_cabinet(rt.alloc()) == Ok(true));
+}
+
+fn is_source(alloc: Global) -> Result<bool, NoMemory> {
+    let mut source = MemSource::new(alloc, b"abcdefg", 3)?;
     source.fail_at(1)?;
     source.fail_at(4)?;
     let mut room = [0u8; 4];
     for answer in [Ok(3), Err(Failed), Ok(3), Ok(1), Err(Failed), Ok(0)] {
-        assert!(rt; source.pull(&mut room) == answer);
+        if source.pull(&mut room) != answer {
+            return Ok(false);
+        }
     }
-    assert!(rt; room[0] == b'g' && source.failures() == 2);
-    Ok(())
+    Ok(room[0] == b'g' && source.failures() == 2)
 }
 
 #[test]
-fn a_sink_in_memory_takes_what_fits_and_fails_where_it_is_to(rt: HostRuntime) -> Result<(), Fail> {
-    let mut sink = MemSink::new(rt.alloc(), 5)?;
+fn a_source_in_memory_gives_pieces_and_fails_where_it_is_to(rt: HostRuntime) {
+    assert!(rt; is_source(rt.alloc()) == Ok(true));
+}
+
+fn is_sink(alloc: Global) -> Result<bool, NoMemory> {
+    let mut sink = MemSink::new(alloc, 5)?;
     sink.fail_at(1)?;
     for (piece, answer) in [
         ("ab", Ok(())),
@@ -63,14 +76,20 @@ fn a_sink_in_memory_takes_what_fits_and_fails_where_it_is_to(rt: HostRuntime) ->
         ("c", Ok(())),
         ("defg", Err(Failed)),
     ] {
-        assert!(rt; sink.put(piece.as_bytes()) == answer, "{piece}");
+        if sink.put(piece.as_bytes()) != answer {
+            return Ok(false);
+        }
     }
-    assert!(rt; sink.written() == b"abcde".as_slice() && sink.failures() == 2);
-    Ok(())
+    Ok(sink.written() == b"abcde".as_slice() && sink.failures() == 2)
+}
+
+#[test]
+fn a_sink_in_memory_takes_what_fits_and_fails_where_it_is_to(rt: HostRuntime) {
+    assert!(rt; is_sink(rt.alloc()) == Ok(true));
 }
 
 // Bytes of which neighbouring blocks differ.
-fn long_content(alloc: Global) -> Result<Vec<u8>, Fail> {
+fn long_content(alloc: Global) -> Result<Vec<u8>, NoMemory> {
     let mut content = Vec::new(alloc);
     for i in 0..100_000u32 {
         content.push((i % 251) as u8)?;
