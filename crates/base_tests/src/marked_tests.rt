@@ -10,7 +10,6 @@ use claim_tree::{print_path, write};
 use marked_tree::{ChosenSet, Marked, MarkedList, MarkedMap, place_of, prune, strip};
 use sd_outside::{NoMemory, TextBox};
 use std::alloc::Global;
-use std::test::Fail;
 
 const TREE: &str = r#"{"a":{"b":1,"c":2},"d":[1,2,3],"e":null}"#;
 
@@ -24,7 +23,7 @@ fn made(alloc: Global, kept: &[u32]) -> Result<ChosenSet, NoMemory> {
 }
 
 // The tree in which just these marks are kept.
-fn pruned(alloc: Global, kept: &[u32]) -> Result<Marked, Fail>
+fn pruned(alloc: Global, kept: &[u32]) -> Result<Marked, NoMemory>
     ensures shallow { IfOk result (λ marked. depth (strip_of (marked_of marked)) ≤ json_depth_max) }
 {
     let chosen = made(alloc, kept)?;
@@ -33,14 +32,14 @@ fn pruned(alloc: Global, kept: &[u32]) -> Result<Marked, Fail>
 }
 
 // Whether just this is left where these marks are kept.
-fn is_left(alloc: Global, kept: &[u32], wanted: &str) -> Result<bool, Fail> {
+fn is_left(alloc: Global, kept: &[u32], wanted: &str) -> Result<bool, NoMemory> {
     let pruned = pruned(alloc, kept)?;
     let tree = strip(alloc, &pruned)?;
     Ok(write(alloc, &tree)?.as_str() == wanted)
 }
 
 // Whether a mark stands at the place of this pointer.
-fn stands_at(alloc: Global, mark: u32, wanted: Option<&str>) -> Result<bool, Fail> {
+fn stands_at(alloc: Global, mark: u32, wanted: Option<&str>) -> Result<bool, NoMemory> {
     let marked = marked(alloc, TREE, PLACES)?;
     let Some(path) = place_of(alloc, &marked, mark)? else {
         return Ok(wanted.is_none());
@@ -50,7 +49,7 @@ fn stands_at(alloc: Global, mark: u32, wanted: Option<&str>) -> Result<bool, Fai
 }
 
 #[test]
-fn what_is_not_kept_is_left_out(rt: HostRuntime) -> Result<(), Fail> {
+fn what_is_not_kept_is_left_out(rt: HostRuntime) {
     for (kept, left, mark, place) in [
         ([9].as_slice(), r#"{"d":[2],"e":null}"#, 9, None),
         ([0].as_slice(), r#"{"d":[2],"e":null}"#, 0, Some("/a/b")),
@@ -74,10 +73,10 @@ fn what_is_not_kept_is_left_out(rt: HostRuntime) -> Result<(), Fail> {
         ),
         ([0, 3, 1, 2].as_slice(), TREE, 4, None),
     ] {
-        let is_left = is_left(rt.alloc(), kept, left)?;
-        assert!(rt; is_left && stands_at(rt.alloc(), mark, place)?, "{mark}");
+        let is_left = is_left(rt.alloc(), kept, left);
+        let stands_at = stands_at(rt.alloc(), mark, place);
+        assert!(rt; is_left == Ok(true) && stands_at == Ok(true), "{mark}");
     }
-    Ok(())
 }
 
 // A member, and some that are put to it.

@@ -6,7 +6,6 @@ use sd_outside::{
 use std::alloc::Global;
 use std::fs;
 use std::fs::File;
-use std::test::Fail;
 
 // A cabinet with a file that was added twice, of which two fetches fail.
 fn cabinet(alloc: Global) -> Result<MemCabinet, NoMemory> {
@@ -112,12 +111,13 @@ fn answers<C: Cabinet>(
     }
 }
 
-#[test]
-fn files_of_the_host_are_read_in_part_and_in_whole(rt: HostRuntime) -> Result<(), Fail> {
-    let long = long_content(rt.alloc())?;
+fn is_host_cabinet(rt: &HostRuntime) -> bool {
+    let Ok(long) = long_content(rt.alloc()) else {
+        return false;
+    };
     let long = long.as_slice();
-    fs::write(&rt, "long", long)?;
-    let mut cabinet = HostCabinet::new(&rt);
+    let mut cabinet = HostCabinet::new(rt);
+    let mut is_so = fs::write(rt, "long", long).is_ok();
     for (name, most, size) in [
         ("long", 0, Some(0)),
         ("long", 1, Some(1)),
@@ -127,33 +127,58 @@ fn files_of_the_host_are_read_in_part_and_in_whole(rt: HostRuntime) -> Result<()
         (".", 10, None),
         ("", 10, None),
     ] {
-        let is_so = answers(rt.alloc(), &mut cabinet, (name, most), long, size);
-        assert!(rt; is_so, "{name} {most}");
+        is_so = answers(rt.alloc(), &mut cabinet, (name, most), long, size) && is_so;
     }
-    Ok(())
+    is_so
 }
 
 #[test]
-fn streams_of_the_host_give_what_they_have(rt: HostRuntime) -> Result<(), Fail> {
-    fs::write(&rt, "given", b"abc".as_slice())?;
-    let mut source = HostSource::new(File::open(&rt, "given")?);
+fn files_of_the_host_are_read_in_part_and_in_whole(rt: HostRuntime) {
+    assert!(rt; is_host_cabinet(&rt));
+}
+
+fn is_host_source(rt: &HostRuntime) -> bool {
+    let is_written = fs::write(rt, "given", b"abc".as_slice()).is_ok();
+    let Ok(given) = File::open(rt, "given") else {
+        return false;
+    };
+    let mut source = HostSource::new(given);
     let mut room = [0u8; 2];
     let first = source.pull(&mut room) == Ok(2) && room == [b'a', b'b'];
     let second = source.pull(&mut room) == Ok(1) && room[0] == b'c';
-    assert!(rt; first && second && source.pull(&mut room) == Ok(0));
-    let mut closed = HostSource::new(File::create(&rt, "written")?);
-    assert!(rt; closed.pull(&mut room) == Err(Failed));
-    Ok(())
+    let third = source.pull(&mut room) == Ok(0);
+    let Ok(written) = File::create(rt, "written") else {
+        return false;
+    };
+    let mut closed = HostSource::new(written);
+    is_written && first && second && third && closed.pull(&mut room) == Err(Failed)
 }
 
 #[test]
-fn streams_of_the_host_take_whole_pieces_or_fail(rt: HostRuntime) -> Result<(), Fail> {
-    let long = long_content(rt.alloc())?;
-    let mut sink = HostSink::new(File::create(&rt, "written")?);
-    let put = [sink.put(long.as_slice()), sink.put(b"")];
-    assert!(rt; put == [Ok(()), Ok(())]);
-    let mut full = HostSink::new(File::create(&rt, "/dev/full")?);
-    assert!(rt; full.put(b"a") == Err(Failed));
-    assert!(rt; fs::read(&rt, "written")?.as_slice() == long.as_slice());
-    Ok(())
+fn streams_of_the_host_give_what_they_have(rt: HostRuntime) {
+    assert!(rt; is_host_source(&rt));
+}
+
+fn is_host_sink(rt: &HostRuntime) -> bool {
+    let Ok(long) = long_content(rt.alloc()) else {
+        return false;
+    };
+    let Ok(written) = File::create(rt, "written") else {
+        return false;
+    };
+    let mut sink = HostSink::new(written);
+    let put = sink.put(long.as_slice()).is_ok() && sink.put(b"").is_ok();
+    let Ok(full) = File::create(rt, "/dev/full") else {
+        return false;
+    };
+    let mut full = HostSink::new(full);
+    let Ok(file) = fs::read(rt, "written") else {
+        return false;
+    };
+    put && full.put(b"a") == Err(Failed) && file.as_slice() == long.as_slice()
+}
+
+#[test]
+fn streams_of_the_host_take_whole_pieces_or_fail(rt: HostRuntime) {
+    assert!(rt; is_host_sink(&rt));
 }

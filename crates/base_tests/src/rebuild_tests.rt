@@ -9,19 +9,18 @@ use digest_index::Steps;
 use digest_sites::{Given, GivenList};
 use rebuild_core::ProcessError::{RepeatedDigest, Unreferenced};
 use rebuild_core::{ProcessError, process};
-use sd_outside::TextBox;
+use sd_outside::{NoMemory, TextBox};
 use std::alloc::Global;
-use std::test::Fail;
 
 // Adds a disclosure of an element: a list with the digest `next`.
-fn add(alloc: Global, list: &mut GivenList, digest: usize, next: usize) -> Result<(), Fail>
+fn add(alloc: Global, list: &mut GivenList, digest: usize, next: usize) -> Result<(), NoMemory>
     requires depths { ValuesShallow list.old }
     requires few { length list.old < 2 ^ 32 - 1 }
     ensures depths { ValuesShallow list.new }
     ensures few { length list.new < 2 ^ 32 - 1 }
 {
     if list.len() >= 5000 {
-        return Err("too many")?;
+        return Err(NoMemory);
     }
     let digest = TextBox::from_string(format!(in alloc; "{digest}")?);
     let text = format!(in alloc; "[{{\"...\":\"{next}\"}}]")?;
@@ -36,7 +35,7 @@ fn add(alloc: Global, list: &mut GivenList, digest: usize, next: usize) -> Resul
 
 // So many disclosures with the digests from 1 on, the digest of each in the value of the one
 // before, and that of the first in the value of the last.
-fn circle(alloc: Global, count: usize) -> Result<GivenList, Fail>
+fn circle(alloc: Global, count: usize) -> Result<GivenList, NoMemory>
     ensures depths { IfOk result ValuesShallow }
     ensures few { IfOk result (λ list. length list < 2 ^ 32 - 1) }
 {
@@ -66,20 +65,32 @@ fn refusal(
     text: &str,
     given: &GivenList,
     steps: &mut Steps,
-) -> Result<Option<ProcessError>, Fail>
+) -> Result<Option<ProcessError>, NoMemory>
     requires depths { ValuesShallow given.now }
     requires few { length given.now < 2 ^ 32 - 1 }
 {
     let payload = value(alloc, text)?;
     if !is_payload(&payload) {
-        return Err("no payload")?;
+        return Ok(None);
     }
     Ok(process(alloc, &payload, given, steps).err())
 }
 
+// The same with a circle of so many disclosures, and the number of look-ups.
+fn circle_refused(
+    alloc: Global,
+    text: &str,
+    count: usize,
+) -> Result<(Option<ProcessError>, u64), NoMemory> {
+    let mut steps = Steps::new();
+    let given = circle(alloc, count)?;
+    let refused = refusal(alloc, text, &given, &mut steps)?;
+    Ok((refused, steps.count()))
+}
+
 // No digests of texts lead in a circle. Each digest is looked up once, and so is each place.
 #[test]
-fn digests_may_lead_in_a_circle(rt: HostRuntime) -> Result<(), Fail> {
+fn digests_may_lead_in_a_circle(rt: HostRuntime) {
     let reached = r#"{"a":[{"...":"1"}]}"#;
     for (text, count, look_ups, error) in [
         (reached, 1, 3, RepeatedDigest(1)),
@@ -89,11 +100,7 @@ fn digests_may_lead_in_a_circle(rt: HostRuntime) -> Result<(), Fail> {
         ("{}", 2, 4, Unreferenced(0)),
         ("{}", 4096, 8192, Unreferenced(0)),
     ] {
-        let mut steps = Steps::new();
-        let given = circle(rt.alloc(), count)?;
-        let refused = refusal(rt.alloc(), text, &given, &mut steps)?;
-        let is_so = refused == Some(error) && steps.count() == look_ups;
-        assert!(rt; is_so, "{text} {count}");
+        let refused = circle_refused(rt.alloc(), text, count);
+        assert!(rt; refused == Ok((Some(error), look_ups)), "{text} {count}");
     }
-    Ok(())
 }

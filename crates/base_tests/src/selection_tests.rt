@@ -12,9 +12,9 @@ ghost use Rattle.selection_core.specs.declared.errors.AllowError.TheVariants.{Re
 use crate::from_text::{marked, paths_of};
 use claim_tree::Path;
 use marked_tree::{ChosenSet, Marked};
+use sd_outside::NoMemory;
 use selection_core::{AllowError, Consent, allow, choose};
 use std::alloc::Global;
-use std::test::Fail;
 
 // Asks a rule that allows places of one step at most: what it says of a place
 // is known to who keeps it.
@@ -32,23 +32,22 @@ fn judge_steps(alloc: Global, marked: &Marked, chosen: &ChosenSet) -> Result<(),
 }
 
 // What it says of what is shown of a value that hides an address and its street.
-fn steps_judged(alloc: Global, want: &str) -> Result<Result<(), AllowError>, Fail> {
+fn steps_judged(alloc: Global, want: &str) -> Result<Result<(), AllowError>, NoMemory> {
     let address = r#"{"address":{"street":"S","zip":"1"}}"#;
     let marked = marked(alloc, address, "/address /address/street")?;
     let wanted = paths_of(alloc, want)?;
     let Ok(chosen) = choose(alloc, &marked, &wanted) else {
-        return Err("not chosen")?;
+        return Err(NoMemory);
     };
     Ok(judge_steps(alloc, &marked, &chosen))
 }
 
 #[test]
-fn a_rule_may_count_steps(rt: HostRuntime) -> Result<(), Fail> {
+fn a_rule_may_count_steps(rt: HostRuntime) {
     for (want, answer) in [
         ("/address/street", Err(AllowError::Refused(0))),
         ("/address", Ok(())),
     ] {
-        assert!(rt; steps_judged(rt.alloc(), want)? == answer, "{want}");
+        assert!(rt; steps_judged(rt.alloc(), want) == Ok(answer), "{want}");
     }
-    Ok(())
 }

@@ -3,19 +3,19 @@ use crate::from_text::value;
 use claim_tree::print_path;
 use digest_sites::SiteKind::{Element, Member};
 use digest_sites::{Site, SiteError, SiteKind, SiteList, sites};
+use sd_outside::NoMemory;
 use std::alloc::Global;
-use std::test::Fail;
 
 // A site in words: its place, its kind and its digest.
 type Words = (&'static str, SiteKind, &'static str);
 
-fn is_site(alloc: Global, site: &Site, wanted: Words) -> Result<bool, Fail> {
+fn is_site(alloc: Global, site: &Site, wanted: Words) -> Result<bool, NoMemory> {
     let (place, kind, digest) = wanted;
     let at = print_path(alloc, &site.at)?;
     Ok(at.as_str() == place && site.kind == kind && site.digest.as_str() == digest)
 }
 
-fn are_sites(alloc: Global, list: &SiteList, wanted: &[Words]) -> Result<bool, Fail> {
+fn are_sites(alloc: Global, list: &SiteList, wanted: &[Words]) -> Result<bool, NoMemory> {
     for (i, words) in wanted.iter().enumerate() {
         let Some(site) = list.at(i) else {
             return Ok(false);
@@ -32,7 +32,7 @@ fn are_listed(
     alloc: Global,
     text: &str,
     wanted: Result<&[Words], SiteError>,
-) -> Result<bool, Fail> {
+) -> Result<bool, NoMemory> {
     let tree = value(alloc, text)?;
     match (sites(alloc, &tree), wanted) {
         (Ok(list), Ok(words)) => are_sites(alloc, &list, words),
@@ -42,7 +42,7 @@ fn are_listed(
 }
 
 #[test]
-fn sites_are_listed_in_order(rt: HostRuntime) -> Result<(), Fail> {
+fn sites_are_listed_in_order(rt: HostRuntime) {
     for (text, wanted) in [
         (
             r#"{"nationalities":["DE",{"...":"w0I8EKcdCtUPkGCNUrfwVp2xEgNjtoIDlOxc9-PlOhs"},"US"]}"#,
@@ -75,7 +75,6 @@ fn sites_are_listed_in_order(rt: HostRuntime) -> Result<(), Fail> {
         ),
         (r#"{"a":{"...":"x"}}"#, Err(SiteError::Misused)),
     ] {
-        assert!(rt; are_listed(rt.alloc(), text, wanted)?, "{text}");
+        assert!(rt; are_listed(rt.alloc(), text, wanted) == Ok(true), "{text}");
     }
-    Ok(())
 }

@@ -5,7 +5,6 @@ use sd_outside::{
     ByteBox, Cabinet, Failed, FetchError, MemCabinet, MemSource, NoMemory, Sink, Source,
 };
 use std::alloc::Global;
-use std::test::Fail;
 
 // The token was signed by another program, under the key of the policy.
 const FILES: [(&str, &str); 5] = [
@@ -26,7 +25,7 @@ const FILES: [(&str, &str); 5] = [
 ];
 
 // A cabinet with these files.
-pub(crate) fn cabinet(alloc: Global) -> Result<MemCabinet, Fail> {
+pub(crate) fn cabinet(alloc: Global) -> Result<MemCabinet, NoMemory> {
     let mut files = MemCabinet::new(alloc);
     for (name, text) in FILES {
         files.add(name, text.as_bytes())?;
@@ -34,7 +33,7 @@ pub(crate) fn cabinet(alloc: Global) -> Result<MemCabinet, Fail> {
     Ok(files)
 }
 
-pub(crate) fn words_of(alloc: Global, words: &str) -> Result<Vec<String>, Fail> {
+pub(crate) fn words_of(alloc: Global, words: &str) -> Result<Vec<String>, NoMemory> {
     let mut list = Vec::new(alloc);
     for word in words.split_whitespace() {
         list.push(String::from_str(alloc, word)?)?;

@@ -2,10 +2,9 @@
 ghost use Rattle.std.specs.Prelude.{◌≡◌, IfOk};
 
 use crate::counted::{Pieces, Pulled, Recorded, cabinet, words_of};
-use sd_outside::{MemSink, MemSource, Sink};
+use sd_outside::{MemSink, MemSource, NoMemory, Sink};
 use sdjwt_cli::run;
 use std::alloc::Global;
-use std::test::Fail;
 use tools_cli::run_tools;
 
 // The number of the status of the program that has these words.
@@ -28,10 +27,10 @@ fn status_of<O: Sink>(
 }
 
 // Two lines, of which a pull gives one.
-fn two_lines(alloc: Global) -> Result<MemSource, Fail>
+fn two_lines(alloc: Global) -> Result<MemSource, NoMemory>
     ensures { IfOk result (λ source. source.taken ≡ 0) }
 {
-    Ok(MemSource::new(alloc, b"a\nb\n", 2)?)
+    MemSource::new(alloc, b"a\nb\n", 2)
 }
 
 // What a run of these words leaves: its status, how often it put a piece on `err`, how often it
@@ -41,7 +40,7 @@ fn left_by<O: Sink>(
     words: &str,
     source: MemSource,
     out: &mut O,
-) -> Result<String, Fail>
+) -> Result<String, NoMemory>
     requires { source.taken ≡ 0 }
 {
     let mut pulled = Pulled { source, pulls: 0 };
@@ -120,29 +119,42 @@ const ROWS: [(&str, u64, &str); 31] = [
     ("feed policy", 0, "2 1 0"),
 ];
 
+// Whether a run of the words of a row leaves the rest of it.
+fn is_left(alloc: Global, row: (&str, u64, &str)) -> Result<bool, NoMemory> {
+    let (words, pieces, wanted) = row;
+    let mut out = Pieces(0);
+    let left = left_by(alloc, words, two_lines(alloc)?, &mut out)?;
+    Ok(left.as_str() == wanted && out.0 == pieces)
+}
+
 #[test]
-fn each_file_is_fetched_once_and_the_source_is_asked_as_long_as_there_is_more(
-    rt: HostRuntime,
-) -> Result<(), Fail> {
-    for (words, pieces, wanted) in ROWS {
-        let mut out = Pieces(0);
-        let left = left_by(rt.alloc(), words, two_lines(rt.alloc())?, &mut out)?;
-        assert!(rt; left.as_str() == wanted && out.0 == pieces, "{words}");
+fn each_file_is_fetched_once_and_the_source_is_asked_as_long_as_there_is_more(rt: HostRuntime) {
+    for row in ROWS {
+        assert!(rt; is_left(rt.alloc(), row) == Ok(true), "{}", row.0);
     }
-    Ok(())
+}
+
+const FEED: &str = "feed policy 100";
+
+// Whether a feed whose second pull fails leaves this, and puts one piece on `out`.
+fn is_broken(alloc: Global, wanted: &str) -> Result<bool, NoMemory> {
+    let mut source = two_lines(alloc)?;
+    source.fail_at(1)?;
+    let mut out = Pieces(0);
+    let left = left_by(alloc, FEED, source, &mut out)?;
+    Ok(left.as_str() == wanted && out.0 == 1)
+}
+
+// Whether a feed that can write 3 bytes leaves this.
+fn is_full(alloc: Global, wanted: &str) -> Result<bool, NoMemory> {
+    let mut out = MemSink::new(alloc, 3)?;
+    let left = left_by(alloc, FEED, two_lines(alloc)?, &mut out)?;
+    Ok(left.as_str() == wanted)
 }
 
 // Where an answer can't be written, or the source fails, it is asked no more.
 #[test]
-fn a_feed_that_is_over_asks_for_nothing(rt: HostRuntime) -> Result<(), Fail> {
-    let alloc = rt.alloc();
-    let mut full = MemSink::new(alloc, 3)?;
-    let unwritten = left_by(alloc, "feed policy 100", two_lines(alloc)?, &mut full)?;
-    let mut broken = two_lines(alloc)?;
-    broken.fail_at(1)?;
-    let mut out = Pieces(0);
-    let unread = left_by(alloc, "feed policy 100", broken, &mut out)?;
-    assert!(rt; unwritten.as_str() == "4 1 1 policy 16777217");
-    assert!(rt; unread.as_str() == "3 1 2 policy 16777217" && out.0 == 1);
-    Ok(())
+fn a_feed_that_is_over_asks_for_nothing(rt: HostRuntime) {
+    assert!(rt; is_full(rt.alloc(), "4 1 1 policy 16777217") == Ok(true));
+    assert!(rt; is_broken(rt.alloc(), "3 1 2 policy 16777217") == Ok(true));
 }
