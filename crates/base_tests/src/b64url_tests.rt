@@ -1,5 +1,5 @@
-// Tests of the letters of base64url, which are looked at many at once.
-use b64url_text::{is_word, word_len};
+// Tests of the letters of base64url, which are looked at many at once, and of a room for bytes.
+use b64url_text::{decode_into, is_word, word_len};
 
 const LETTERS: &[u8] = b"ABCDEFGHIJKLMNOPQRSTUVWXYZabcdefghijklmnopqrstuvwxyz0123456789-_";
 
@@ -22,4 +22,11 @@ fn each_byte_is_told_at_each_place(rt: HostRuntime) {
         }
     }
     assert!(rt; !is_word(b""));
+}
+
+#[test]
+fn a_room_keeps_what_is_not_written(rt: HostRuntime) {
+    let mut room = [7; 6];
+    let count = decode_into(b"AQID", &mut room);
+    assert!(rt; count == Ok(3) && room == [1, 2, 3, 7, 7, 7]);
 }
