@@ -1,89 +1,71 @@
-// Tests of key sets that are read from texts.
-use hmac_sign::{Alg, HsKey, KeySet, KeySetError};
+// Tests of key sets: of the first key, and of why a value is none.
 use claim_tree::read;
-use std::test::Fail;
+use hmac_sign::KeySetError::{KeyNotBase64, KeyShort, NotASet};
+use hmac_sign::{Hs256Key, KeySet, KeySetError};
+use std::alloc::Global;
 
-#[test]
-fn key_sets_are_read(rt: HostRuntime) -> Result<(), Fail> {
-    let alloc = rt.alloc();
-    let text =
-        br#"{"keys":[{"kty":"EC"},{"kty":"oct","k":"AAECAwQFBgcICQoLDA0ODxAREhMUFRYXGBkaGxwdHh8"},{"kty":"oct","k":"ICEiIyQlJicoKSorLC0uLzAxMjM0NTY3ODk6Ozw9Pj8","kid":"b"},{"kty":"oct","k":"AAECAwQFBgcICQoLDA0ODxAREhMUFRYXGBkaGxwdHh8","kid":"b"}],"more":1}"#;
-    let tree = read(alloc, text).map_err(|_| "no tree")?;
-    let set = KeySet::read(alloc, &tree).map_err(|_| "no key set")?;
-    let first = set.first().ok_or("no key")?;
-    let named = set.find("b").ok_or("no key")?;
-    assert!(rt; first.mac("a", "b") != named.mac("a", "b"));
-    assert!(rt; set.find("B").is_none() && set.find("").is_none());
-    Ok(())
-}
+// A key of another kind, one of 32 bytes 1, and one of 32 bytes 2 with a name.
+const SET: &str =
+    r#"{"keys":[{"kty":"EC"},{"kty":"oct","k":"AQEBAQEBAQEBAQEBAQEBAQEBAQEBAQEBAQEBAQEBAQE"},{"kty":"oct","kid":"b","k":"AgICAgICAgICAgICAgICAgICAgICAgICAgICAgICAgI"}],"more":1}"#;
 
-// Keys of 32 bytes 1, 48 bytes 2 and 64 bytes 3 under one name, and one of 64
-// bytes 4 under another.
-#[test]
-fn the_first_key_that_is_long_enough_is_picked(rt: HostRuntime) -> Result<(), Fail> {
-    let alloc = rt.alloc();
-    let text = br#"{"keys":[
-        {"kty":"oct","kid":"a","k":"AQEBAQEBAQEBAQEBAQEBAQEBAQEBAQEBAQEBAQEBAQE"},
-        {"kty":"oct","kid":"a","k":"AgICAgICAgICAgICAgICAgICAgICAgICAgICAgICAgICAgICAgICAgICAgICAgIC"},
-        {"kty":"oct","kid":"a","k":"AwMDAwMDAwMDAwMDAwMDAwMDAwMDAwMDAwMDAwMDAwMDAwMDAwMDAwMDAwMDAwMDAwMDAwMDAwMDAwMDAwMDAw"},
-        {"kty":"oct","kid":"b","k":"BAQEBAQEBAQEBAQEBAQEBAQEBAQEBAQEBAQEBAQEBAQEBAQEBAQEBAQEBAQEBAQEBAQEBAQEBAQEBAQEBAQEBA"}]}"#;
-    let tree = read(alloc, text).map_err(|_| "no tree")?;
-    let set = KeySet::read(alloc, &tree).map_err(|_| "no key set")?;
-    for (kid, alg, byte, length) in [
-        (Some("a"), Alg::Hs256, 1, 32),
-        (Some("a"), Alg::Hs384, 2, 48),
-        (Some("a"), Alg::Hs512, 3, 64),
-        (Some("b"), Alg::Hs256, 4, 64),
-        (Some("b"), Alg::Hs512, 4, 64),
-        (None, Alg::Hs256, 1, 32),
-        (None, Alg::Hs384, 2, 48),
-        (None, Alg::Hs512, 3, 64),
-    ] {
-        let bytes = [byte; 64];
-        let key = HsKey::new(alg, &bytes[..length]).map_err(|_| "the key is short")?;
-        let picked = set.pick(kid, alg).ok_or("no key")?;
-        assert_eq!(rt;
-            picked.mac("head", "body").bytes(),
-            key.mac("head", "body").bytes(),
-            "{kid:?} {alg:?}"
-        );
+// Whether a key is the one of 32 such bytes.
+fn is_of(key: Option<&Hs256Key>, byte: u8) -> bool {
+    let Ok(other) = Hs256Key::new(&[byte; 32]) else {
+        return false;
+    };
+    match key {
+        Some(key) => key.mac("head", "body") == other.mac("head", "body"),
+        None => false,
     }
-    assert!(rt;
-        set.pick(Some("c"), Alg::Hs256).is_none() && set.pick(Some(""), Alg::Hs512).is_none()
-    );
-    Ok(())
+}
+
+// Whether the set has these keys, and no others.
+fn has_both(alloc: Global) -> bool {
+    let Ok(tree) = read(alloc, SET.as_bytes()) else {
+        return false;
+    };
+    let Ok(set) = KeySet::read(alloc, &tree) else {
+        return false;
+    };
+    let others = set.find("a").is_some() || set.find("B").is_some() || set.find("").is_some();
+    is_of(set.first(), 1) && is_of(set.find("b"), 2) && !others
 }
 
 #[test]
-fn what_is_no_key_set_is_refused(rt: HostRuntime) -> Result<(), Fail> {
-    let alloc = rt.alloc();
+fn a_key_is_the_first_or_has_a_name(rt: HostRuntime) {
+    assert!(rt; has_both(rt.alloc()));
+}
+
+fn refusal(alloc: Global, text: &str) -> Option<KeySetError> {
+    let Ok(tree) = read(alloc, text.as_bytes()) else {
+        return None;
+    };
+    KeySet::read(alloc, &tree).err()
+}
+
+#[test]
+fn what_is_no_key_set_is_refused(rt: HostRuntime) {
     for (text, error) in [
-        ("[]", KeySetError::NotASet),
-        (r#"{"keys":{}}"#, KeySetError::NotASet),
-        (r#"{"keys":["oct"]}"#, KeySetError::NotASet),
-        (
-            r#"{"keys":[{"kty":"oct","k":"A"},{"kty":1}]}"#,
-            KeySetError::NotASet,
-        ),
-        (r#"{"keys":[{"kty":"oct"}]}"#, KeySetError::NotASet),
-        (
-            r#"{"keys":[{"kty":"oct","k":"AA","kid":1}]}"#,
-            KeySetError::NotASet,
-        ),
+        ("[]", NotASet),
+        (r#"{"keys":{}}"#, NotASet),
+        (r#"{"keys":["oct"]}"#, NotASet),
+        (r#"{"keys":[{"kty":"oct","k":"A"},{"kty":1}]}"#, NotASet),
+        (r#"{"keys":[{"kty":"oct"}]}"#, NotASet),
+        (r#"{"keys":[{"kty":"oct","k":"AA","kid":1}]}"#, NotASet),
         (
             r#"{"keys":[{"kty":"oct","k":"AA"},{"kty":"EC"},{"kty":"oct","k":"A"}]}"#,
-            KeySetError::KeyNotBase64(2),
+            KeyNotBase64(2),
+        ),
+        // 31 bytes
+        (
+            r#"{"keys":[{"kty":"oct","k":"AAECAwQFBgcICQoLDA0ODxAREhMUFRYXGBkaGxwdHg"}]}"#,
+            KeyShort(0),
         ),
         (
             r#"{"keys":[{"kty":"EC","k":"A"},{"kty":"oct","k":"AAECAwQFBgcICQoLDA0ODxAREhMUFRYXGBkaGxwdHg"}]}"#,
-            KeySetError::KeyShort(1),
+            KeyShort(1),
         ),
     ] {
-        let tree = read(alloc, text.as_bytes()).map_err(|_| "no tree")?;
-        let Err(refusal) = KeySet::read(alloc, &tree) else {
-            return Err("a key set".into());
-        };
-        assert_eq!(rt; refusal, error, "{text}");
+        assert!(rt; refusal(rt.alloc(), text) == Some(error), "{text}");
     }
-    Ok(())
 }

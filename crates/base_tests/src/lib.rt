@@ -5,8 +5,6 @@
 #[cfg(test)]
 mod b64url_tests;
 #[cfg(test)]
-mod compact_tests;
-#[cfg(test)]
 mod disclosure_tests;
 #[cfg(test)]
 mod from_text;
@@ -15,17 +13,11 @@ mod hmac_tests;
 #[cfg(test)]
 mod index_tests;
 #[cfg(test)]
-mod json_form_tests;
-#[cfg(test)]
-mod jws_tests;
-#[cfg(test)]
 mod key_set_tests;
 #[cfg(test)]
 mod marked_tests;
 #[cfg(test)]
 mod outside_tests;
-#[cfg(test)]
-mod pointer_tests;
 #[cfg(test)]
 mod rebuild_tests;
 #[cfg(test)]
@@ -33,4 +25,4 @@ mod selection_tests;
 #[cfg(test)]
 mod sites_tests;
 #[cfg(test)]
-mod tree_tests;
+mod token_tests;

@@ -1,140 +1,160 @@
-// What each command asks of its cabinet, and in how many pieces it answers.
-ghost use Rattle.std.specs.Prelude.{◌≡◌};
+// What each command asks of its cabinet and of its source, and in how many pieces it answers.
+ghost use Rattle.std.specs.Prelude.{◌≡◌, IfOk};
 
-use sd_outside::{ByteBox, Cabinet, Failed, FetchError, MemCabinet, NoMemory, Sink};
+use crate::counted::{Pieces, Pulled, Recorded, cabinet, words_of};
+use sd_outside::{MemSink, MemSource, NoMemory, Sink};
 use sdjwt_cli::run;
 use std::alloc::Global;
-use std::test::Fail;
+use tools_cli::run_tools;
 
-// A cabinet that records what it is asked: each name, with the most bytes.
-#[derive(Drop)]
-pub(crate) struct Recorded {
-    files: MemCabinet,
-    pub(crate) asked: String,
-}
-
-impl Recorded {
-    // With the files of the tests, and asked nothing.
-    pub(crate) fn with_files(alloc: Global) -> Result<Recorded, NoMemory> {
-        let mut files = MemCabinet::new(alloc);
-        for (name, text) in FILES {
-            files.add(name, text.as_bytes())?;
+// The number of the status of the program that has these words.
+fn status_of<O: Sink>(
+    alloc: Global,
+    words: &[String],
+    cabinet: &mut Recorded,
+    source: &mut Pulled,
+    out: &mut O,
+    err: &mut Pieces,
+) -> u8
+    requires { source.old.source.taken ≡ 0 }
+{
+    match words.first().map(|word| word.as_str()) {
+        Some("audit" | "wallet" | "feed") => {
+            run_tools(alloc, words, cabinet, source, 0, out, err).number()
         }
-        Ok(Recorded {
-            files,
-            asked: String::new(alloc),
-        })
-    }
-
-    fn note(&mut self, alloc: Global, name: &str, most: usize) -> Result<(), NoMemory>
-        ensures { self.new.files ≡ self.old.files }
-    {
-        let entry = format!(in alloc; " {name} {most}")?;
-        self.asked.push_str(entry.as_str())?;
-        Ok(())
+        _ => run(alloc, words, cabinet, 0, out, err).number(),
     }
 }
 
-impl Cabinet for Recorded {
-    ghost use Rattle.sd_outside.specs.Memory.{content_of};
-
-    ghost holds = { λ c name. content_of c.files.files name };
-
-    ghost faults = { λ c. c.files.faults };
-
-    ghost missed = { λ c. c.files.missed };
-
-    fn fetch(&mut self, alloc: Global, name: &str, most: usize) -> Result<ByteBox, FetchError> {
-        self.note(alloc, name, most)?;
-        self.files.fetch(alloc, name, most)
-    }
+// Two lines, of which a pull gives one.
+fn two_lines(alloc: Global) -> Result<MemSource, NoMemory>
+    ensures { IfOk result (λ source. source.taken ≡ 0) }
+{
+    MemSource::new(alloc, b"a\nb\n", 2)
 }
 
-// A sink that counts its pieces.
-#[derive(Drop)]
-pub(crate) struct Pieces(pub(crate) u64);
-
-impl Sink for Pieces {
-    ghost use Rattle.std.specs.Prelude.{None};
-
-    ghost written = { λ _. None };
-
-    ghost faults = { λ _. 0 };
-
-    fn put(&mut self, _bytes: &[u8]) -> Result<(), Failed> {
-        self.0 = self.0.saturating_add(1);
-        Ok(())
-    }
+// What a run of these words leaves: its status, how often it put a piece on `err`, how often it
+// asked the source, and what it asked for of the cabinet.
+fn left_by<O: Sink>(
+    alloc: Global,
+    words: &str,
+    source: MemSource,
+    out: &mut O,
+) -> Result<String, NoMemory>
+    requires { source.taken ≡ 0 }
+{
+    let mut pulled = Pulled { source, pulls: 0 };
+    let mut recorded = Recorded {
+        files: cabinet(alloc)?,
+        asked: String::new(alloc),
+    };
+    let words = words_of(alloc, words)?;
+    let words = words.as_slice();
+    let mut err = Pieces(0);
+    let status = status_of(alloc, words, &mut recorded, &mut pulled, out, &mut err);
+    let (pulls, asked) = (pulled.pulls, recorded.asked.as_str());
+    Ok(format!(in alloc; "{status} {} {pulls}{asked}", err.0)?)
 }
 
-// The token was signed by another program, under the key of the policy.
-pub(crate) const FILES: [(&str, &str); 5] = [
+// Words, how often a run of them puts a piece on `out`, and what else it leaves.
+const ROWS: [(&str, u64, &str); 31] = [
+    ("split token", 1, "0 0 0 token 16777217"),
+    ("show token", 1, "0 0 0 token 16777217"),
     (
-        "policy",
-        r#"{"keys":{"keys":[{"kty":"oct","k":"AQEBAQEBAQEBAQEBAQEBAQEBAQEBAQEBAQEBAQEBAQE"}]}}"#,
+        "verify policy token",
+        1,
+        "0 0 0 policy 16777217 token 16777217",
+    ),
+    ("issue order seed", 1, "0 0 0 order 16777217 seed 32"),
+    (
+        "present policy token",
+        1,
+        "0 0 0 policy 16777217 token 16777217",
+    ),
+    ("convert flat token", 1, "0 0 0 token 16777217"),
+    // a file that is refused is asked for no second time, and the next one
+    // is asked for all the same
+    ("split bad", 0, "1 1 0 bad 16777217"),
+    ("show bad", 0, "1 1 0 bad 16777217"),
+    ("verify bad token", 0, "6 1 0 bad 16777217 token 16777217"),
+    ("issue bad seed", 0, "6 1 0 bad 16777217 seed 32"),
+    ("present bad token", 0, "6 1 0 bad 16777217 token 16777217"),
+    ("convert flat bad", 0, "1 1 0 bad 16777217"),
+    // behind one that is missing none is asked for
+    ("verify absent token", 0, "3 1 0 absent 16777217"),
+    ("issue order absent", 0, "3 1 0 order 16777217 absent 32"),
+    ("present absent absent", 0, "3 1 0 absent 16777217"),
+    ("convert flat absent", 0, "3 1 0 absent 16777217"),
+    ("verify token", 0, "2 1 0"),
+    // the tools
+    (
+        "audit order token",
+        0,
+        "1 1 0 order 16777217 token 16777217",
+    ),
+    ("audit bad token", 0, "6 1 0 bad 16777217 token 16777217"),
+    ("audit absent token", 0, "3 1 0 absent 16777217"),
+    (
+        "wallet policy token token",
+        1,
+        "0 0 0 policy 16777217 token 16777217 token 16777217",
     ),
     (
-        "order",
-        r#"{"payload":{},"key":"AQEBAQEBAQEBAQEBAQEBAQEBAQEBAQEBAQEBAQEBAQE"}"#,
+        "wallet policy token absent",
+        0,
+        "3 1 0 policy 16777217 token 16777217 absent 16777217",
     ),
-    ("seed", "a seed of 32 bytes, and some more"),
     (
-        "token",
-        "eyJhbGciOiJIUzI1NiJ9.e30.cm8Irw3f5_Kg9Gj_dx0Va_pr7uQ1ksaSioUH4DpAh2w~",
+        "wallet bad token token",
+        0,
+        "6 1 0 bad 16777217 token 16777217 token 16777217",
     ),
-    ("bad", "?"),
+    ("feed policy 100", 3, "0 0 3 policy 16777217"),
+    ("feed policy 4", 3, "0 0 3 policy 16777217"),
+    ("feed policy 3", 1, "1 1 3 policy 16777217"),
+    ("feed policy 1", 0, "1 1 2 policy 16777217"),
+    ("feed policy 0", 0, "2 1 0"),
+    ("feed bad 100", 0, "6 1 0 bad 16777217"),
+    ("feed absent 100", 0, "3 1 0 absent 16777217"),
+    ("feed policy", 0, "2 1 0"),
 ];
 
-pub(crate) fn words_of(alloc: Global, words: &str) -> Result<Vec<String>, Fail> {
-    let mut list = Vec::new(alloc);
-    for word in words.split_whitespace() {
-        list.push(String::from_str(alloc, word)?)?;
-    }
-    Ok(list)
-}
-
-// What a run of these words over the files leaves: its status, how often it put
-// a piece on `out` and on `err`, and what it asked for.
-fn left_by(alloc: Global, words: &str) -> Result<String, Fail> {
-    let mut cabinet = Recorded::with_files(alloc)?;
-    let (mut out, mut err) = (Pieces(0), Pieces(0));
-    let words = words_of(alloc, words)?;
-    let status = run(alloc, words.as_slice(), &mut cabinet, 0, &mut out, &mut err).number();
-    let asked = cabinet.asked.as_str();
-    Ok(format!(in alloc; "{status} {} {}{asked}", out.0, err.0)?)
+// Whether a run of the words of a row leaves the rest of it.
+fn is_left(alloc: Global, row: (&str, u64, &str)) -> Result<bool, NoMemory> {
+    let (words, pieces, wanted) = row;
+    let mut out = Pieces(0);
+    let left = left_by(alloc, words, two_lines(alloc)?, &mut out)?;
+    Ok(left.as_str() == wanted && out.0 == pieces)
 }
 
 #[test]
-fn each_file_is_fetched_once_and_the_answer_is_one_piece(rt: HostRuntime) -> Result<(), Fail> {
-    for (words, wanted) in [
-        ("split token", "0 1 0 token 16777217"),
-        ("show token", "0 1 0 token 16777217"),
-        (
-            "verify policy token",
-            "0 1 0 policy 16777217 token 16777217",
-        ),
-        ("issue order seed", "0 1 0 order 16777217 seed 32"),
-        (
-            "present policy token",
-            "0 1 0 policy 16777217 token 16777217",
-        ),
-        ("convert flat token", "0 1 0 token 16777217"),
-        // a file that is refused is asked for no second time, and the next one
-        // is asked for all the same
-        ("split bad", "1 0 1 bad 16777217"),
-        ("show bad", "1 0 1 bad 16777217"),
-        ("verify bad token", "6 0 1 bad 16777217 token 16777217"),
-        ("issue bad seed", "6 0 1 bad 16777217 seed 32"),
-        ("present bad token", "6 0 1 bad 16777217 token 16777217"),
-        ("convert flat bad", "1 0 1 bad 16777217"),
-        // behind one that is missing none is asked for
-        ("verify absent token", "3 0 1 absent 16777217"),
-        ("issue order absent", "3 0 1 order 16777217 absent 32"),
-        ("present absent absent", "3 0 1 absent 16777217"),
-        ("convert flat absent", "3 0 1 absent 16777217"),
-        ("verify token", "2 0 1"),
-    ] {
-        assert_eq!(rt; left_by(rt.alloc(), words)?.as_str(), wanted, "{words}");
+fn each_file_is_fetched_once_and_the_source_is_asked_as_long_as_there_is_more(rt: HostRuntime) {
+    for row in ROWS {
+        assert!(rt; is_left(rt.alloc(), row) == Ok(true), "{}", row.0);
     }
-    Ok(())
+}
+
+const FEED: &str = "feed policy 100";
+
+// Whether a feed whose second pull fails leaves this, and puts one piece on `out`.
+fn is_broken(alloc: Global, wanted: &str) -> Result<bool, NoMemory> {
+    let mut source = two_lines(alloc)?;
+    source.fail_at(1)?;
+    let mut out = Pieces(0);
+    let left = left_by(alloc, FEED, source, &mut out)?;
+    Ok(left.as_str() == wanted && out.0 == 1)
+}
+
+// Whether a feed that can write 3 bytes leaves this.
+fn is_full(alloc: Global, wanted: &str) -> Result<bool, NoMemory> {
+    let mut out = MemSink::new(alloc, 3)?;
+    let left = left_by(alloc, FEED, two_lines(alloc)?, &mut out)?;
+    Ok(left.as_str() == wanted)
+}
+
+// Where an answer can't be written, or the source fails, it is asked no more.
+#[test]
+fn a_feed_that_is_over_asks_for_nothing(rt: HostRuntime) {
+    assert!(rt; is_full(rt.alloc(), "4 1 1 policy 16777217") == Ok(true));
+    assert!(rt; is_broken(rt.alloc(), "3 1 2 policy 16777217") == Ok(true));
 }

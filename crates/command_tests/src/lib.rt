@@ -1,7 +1,12 @@
-//! Tests of the top calls of the programs, of what no row of a table shows, and of the runner of
-//! those rows. They stand apart from `library_tests` so that those need not wait for these.
+//! Tests of the top calls of the programs, of what no row of a table shows, of the runner of those
+//! rows, and of `sdjwt_lib` and `examples_service`. They stand apart from `library_tests` so that
+//! those need not wait for these.
 #![tactic(auto)]
 
+#[cfg(test)]
+mod counted;
+#[cfg(test)]
+mod end_to_end_tests;
 #[cfg(test)]
 mod failing_tests;
 #[cfg(test)]
@@ -9,4 +14,4 @@ mod fetch_tests;
 #[cfg(test)]
 mod row_tests;
 #[cfg(test)]
-mod tool_tests;
+mod service_tests;

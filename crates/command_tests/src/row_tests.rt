@@ -50,8 +50,7 @@ t.rows:20: can't be read: what is to be a number is none
 #[test]
 fn rows_that_leave_something_else_are_told(rt: HostRuntime) -> Result<(), Fail> {
     let report = run_table(rt.alloc(), SHARED, "t.rows", TABLE)?;
-    assert_eq!(rt; report.told.as_str(), WRONG);
-    assert_eq!(rt; report.count.rows, 16);
-    assert_eq!(rt; report.count.differing, 13);
+    let counts = [report.count.rows, report.count.differing];
+    assert!(rt; report.told.as_str() == WRONG && counts == [16, 13]);
     Ok(())
 }

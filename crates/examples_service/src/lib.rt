@@ -5,8 +5,6 @@
 #![tactic(auto)]
 
 mod claim;
-#[cfg(test)]
-mod tests;
 mod token;
 
 pub use claim::claim_of;

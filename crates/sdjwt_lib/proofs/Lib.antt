@@ -1,4 +1,2 @@
 mod EndToEnd
 pub mod Lemmas
-mod OtherRules
-mod WorkedFiles

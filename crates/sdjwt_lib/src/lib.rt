@@ -29,8 +29,6 @@
 #![tactic(auto)]
 
 mod end_to_end;
-#[cfg(test)]
-mod end_to_end_tests;
 
 pub use audit_core;
 pub use b64url_text;

@@ -5,8 +5,8 @@ use Rattle.selection_core.specs.Never.{Judges, never_rule}
 use Rattle.selection_core.proofs.NeverShown.{judges_too}
 use Rattle.sdjwt_cli.specs.Presenting.{signing_key}
 use Rattle.sdjwt_cli.specs.Suits.{Suits}
-use Rattle.sdjwt_lib.proofs.OtherRules.{suits_by}
-use Rattle.sdjwt_lib.proofs.end_to_end_tests.found.Goals as goal
+use Rattle.command_tests.proofs.OtherRules.{suits_by}
+use Rattle.command_tests.proofs.end_to_end_tests.found.Goals as goal
 
 pub issue_present_verify-requires-clause-suits : goal.issue_present_verify-requires-clause-suits
 issue_present_verify-requires-clause-suits c =

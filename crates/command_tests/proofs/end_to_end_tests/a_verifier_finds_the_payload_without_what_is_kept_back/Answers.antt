@@ -1,6 +1,6 @@
 use Rattle.sdjwt_cli.proofs.SuitedFiles.{order_text, present_text, policy_text}
-use Rattle.sdjwt_lib.proofs.WorkedFiles.{suits_read, short_read}
-use Rattle.sdjwt_lib.proofs.end_to_end_tests.a_verifier_finds_the_payload_without_what_is_kept_back.Goals as goal
+use Rattle.command_tests.proofs.WorkedFiles.{suits_read, short_read}
+use Rattle.command_tests.proofs.end_to_end_tests.a_verifier_finds_the_payload_without_what_is_kept_back.Goals as goal
 
 pub found-requires-clause-short : goal.found-requires-clause-short
 found-requires-clause-short g c =

@@ -1,0 +1,2 @@
+mod OtherRules
+mod WorkedFiles
