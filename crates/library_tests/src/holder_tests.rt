@@ -1,6 +1,7 @@
 // What a holder is told, and what its rule and its signer are asked: nothing where the token is
 // refused, and else just what is sent, once.
 use crate::recording::{Recorder, noted};
+use crate::tell::{expect_told, joined, noticed};
 use claim_tree::Path;
 use compact_form::{Parts, print};
 use digest_index::Steps;
@@ -38,14 +39,32 @@ const BY_NEITHER: &str =
 
 // The text that the last JWT of a compact token is signed over, behind a blank, or nothing.
 pub(crate) fn signed_text(rt: &impl Abort, alloc: Global, jwt: &str) -> String {
-    let Some((text, _)) = jwt.rsplit_once('.') else {
-        return String::new(alloc);
-    };
-    format!(in alloc; " {text}").expect(rt, "memory")
+    match jwt.rsplit_once('.') {
+        Some((text, _)) => joined(rt, alloc, &[" ", text]),
+        None => String::new(alloc),
+    }
 }
 
-// What is told: how many disclosures are sent, or why nothing is. What is sent is signed as the
-// signer was asked.
+// Why nothing is presented.
+pub(crate) fn why(rt: &impl Abort, alloc: Global, error: &PresentError) -> String {
+    match error {
+        PresentError::SignFailed => joined(rt, alloc, &["fails"]),
+        _ => refusal_line(alloc, error)
+            .expect(rt, "memory")
+            .into_string(),
+    }
+}
+
+// How many disclosures are sent. The signer was asked to sign what is sent.
+fn sent(rt: &impl Abort, alloc: Global, parts: &Parts, asked: &str) -> String {
+    let text = print(alloc, parts).expect(rt, "memory");
+    let (_, jwt) = text.as_str().rsplit_once('~').expect(rt, "a token");
+    let signed = signed_text(rt, alloc, jwt);
+    expect_told(rt, asked, signed.as_str(), "");
+    let count = parts.disclosures.len();
+    format!(in alloc; "sends {count}").expect(rt, "memory")
+}
+
 fn told(
     rt: &impl Abort,
     alloc: Global,
@@ -53,18 +72,8 @@ fn told(
     asked: &str,
 ) -> String {
     match answer {
-        Ok(parts) => {
-            let text = print(alloc, parts).expect(rt, "memory");
-            let (_, jwt) = text.as_str().rsplit_once('~').expect(rt, "a token");
-            let signed = signed_text(rt, alloc, jwt);
-            assert_eq!(rt; asked, signed.as_str());
-            let count = parts.disclosures.len();
-            format!(in alloc; "sends {count}").expect(rt, "memory")
-        }
-        Err(PresentError::SignFailed) => String::from_str(alloc, "fails").expect(rt, "memory"),
-        Err(error) => refusal_line(alloc, error)
-            .expect(rt, "memory")
-            .into_string(),
+        Ok(parts) => sent(rt, alloc, parts, asked),
+        Err(error) => why(rt, alloc, error),
     }
 }
 
@@ -87,9 +96,18 @@ fn answered(
     let text = token.as_bytes();
     let answer = present(alloc, text, &said.ask, &consent, &mut signer, 0, &mut steps);
     let told = told(rt, alloc, &answer, signer.asked.as_str());
-    let (told, count, places) = (told.as_str(), steps.count(), places.get());
-    let asked = signer.asked.as_str();
-    format!(in alloc; "{told}, {count}, {places}{asked}").expect(rt, "memory")
+    let counts = (steps.count(), places.get());
+    noticed(rt, alloc, told.as_str(), counts, signer.asked.as_str())
+}
+
+fn order_of(rt: &impl Abort, alloc: Global, key: &str, want: &str, binding: &str) -> String {
+    let before = r#"{"keys":{"keys":[{"kty":"oct","k":""#;
+    let between = r#""}]},"want":[""#;
+    joined(
+        rt,
+        alloc,
+        &[before, key, between, want, "\"]", binding, "}"],
+    )
 }
 
 const STREET: &str = "/address/street";
@@ -203,7 +221,7 @@ const TOLD: [(&str, &str, &str, &str, usize, bool, &str, &str); 17] = [
         BINDING,
         2,
         true,
-        "refused 2 form at 434, 0, 0",
+        "refused 2 form at 299, 0, 0",
         "",
     ),
     (
@@ -252,17 +270,9 @@ const TOLD: [(&str, &str, &str, &str, usize, bool, &str, &str); 17] = [
 fn a_rule_and_a_signer_are_asked_once_and_only_for_what_is_sent(rt: HostRuntime) {
     let alloc = rt.alloc();
     for (behind, key, want, binding, most, fails, line, signed) in TOLD {
-        let token = format!(in alloc; "{TOKEN}{behind}").expect(&rt, "memory");
-        let order = format!(in alloc;
-            r#"{{"keys":{{"keys":[{{"kty":"oct","k":"{key}"}}]}},"want":["{want}"]{binding}}}"#
-        );
-        let order = order.expect(&rt, "memory");
+        let token = joined(&rt, alloc, &[TOKEN, behind]);
+        let order = order_of(&rt, alloc, key, want, binding);
         let told = answered(&rt, alloc, token.as_str(), order.as_str(), most, fails);
-        let wanted = format!(in alloc; "{line}{signed}").expect(&rt, "memory");
-        assert_eq!(rt;
-            told.as_str(),
-            wanted.as_str(),
-            "{behind} {want} {most} {fails}"
-        );
+        expect_told(&rt, told.as_str(), line, signed);
     }
 }

@@ -7,13 +7,14 @@ ghost use Rattle.claim_tree.specs.View.{tree_of};
 
 use crate::holder_tests::signed_text;
 use crate::recording::Recorder;
+use crate::tell::{expect_told, joined};
 use claim_tree::Path;
 use compact_form::{Parts, print};
 use file_members::{Field, FileFault};
 use hmac_sign::{Alg, HsKey, Signer};
 use issuer_core::{
-    Decoy, IssueError, Order, first_clash, issue, issue_owned, judge, read_order,
-    read_unsigned_order, refusal_line, to_sign,
+    Decoy, DecoyList, IssueError, Order, UnsignedToken, first_clash, issue, issue_owned, judge,
+    read_order, read_unsigned_order, refusal_line, to_sign,
 };
 use sd_outside::{TextBox, TextList};
 use std::alloc::Global;
@@ -34,16 +35,18 @@ fn order_of(rt: &impl Abort, alloc: Global, file: &str) -> Order
     read_unsigned_order(alloc, file.as_bytes()).expect(rt, "an order")
 }
 
-// What is told of an answer: the text that is signed of what is issued, behind a blank, or why
-// nothing is.
+// The text that is signed of what is issued, behind a blank.
+fn signed_of(rt: &impl Abort, alloc: Global, parts: &Parts) -> String {
+    let text = print(alloc, parts).expect(rt, "memory");
+    let (jwt, _) = text.as_str().split_once('~').expect(rt, "a token");
+    signed_text(rt, alloc, jwt)
+}
+
+// The same, or why nothing is issued.
 fn told(rt: &impl Abort, alloc: Global, answer: &Result<Parts, IssueError>) -> String {
     match answer {
-        Ok(parts) => {
-            let text = print(alloc, parts).expect(rt, "memory");
-            let (jwt, _) = text.as_str().split_once('~').expect(rt, "a token");
-            signed_text(rt, alloc, jwt)
-        }
-        Err(IssueError::SignFailed) => String::from_str(alloc, "fails").expect(rt, "memory"),
+        Ok(parts) => signed_of(rt, alloc, parts),
+        Err(IssueError::SignFailed) => joined(rt, alloc, &["fails"]),
         Err(error) => refusal_line(alloc, error)
             .expect(rt, "memory")
             .into_string(),
@@ -58,16 +61,20 @@ fn issued(rt: &impl Abort, alloc: Global, file: &str, fails: bool) -> (String, S
     (told(rt, alloc, &answer), signer.asked)
 }
 
+// A signer that fails is asked for the same text as one that signs it.
+fn expect_asked_once(rt: &impl Abort, alloc: Global, file: &str) {
+    let (told, asked) = issued(rt, alloc, file, false);
+    assert!(rt; asked.as_str().len() > 20);
+    expect_told(rt, told.as_str(), asked.as_str(), "");
+    let (told, failed) = issued(rt, alloc, file, true);
+    expect_told(rt, told.as_str(), "fails", "");
+    expect_told(rt, failed.as_str(), asked.as_str(), "");
+}
+
 #[test]
 fn a_signer_is_asked_once_for_what_is_issued(rt: HostRuntime) {
-    let alloc = rt.alloc();
     for file in [r#"{"payload":{}}"#, UNKEYED] {
-        let (told, asked) = issued(&rt, alloc, file, false);
-        assert!(rt; told.as_str().len() > 20);
-        assert_eq!(rt; asked.as_str(), told.as_str(), "{file}");
-        let (told, failed) = issued(&rt, alloc, file, true);
-        assert_eq!(rt; told.as_str(), "fails", "{file}");
-        assert_eq!(rt; failed.as_str(), asked.as_str(), "{file}");
+        expect_asked_once(&rt, rt.alloc(), file);
     }
 }
 
@@ -104,83 +111,124 @@ const REFUSED: [(&str, &str); 8] = [
     ),
 ];
 
+fn expect_refused(rt: &impl Abort, alloc: Global, file: &str, line: &str) {
+    let (told, asked) = issued(rt, alloc, file, true);
+    expect_told(rt, told.as_str(), line, "");
+    expect_told(rt, asked.as_str(), "", "");
+}
+
+// An order for a payload of so many lists inside one another.
+fn deep_order(rt: &impl Abort, alloc: Global, count: usize) -> String {
+    let begins = "[".repeat(alloc, count).expect(rt, "memory");
+    let ends = "]".repeat(alloc, count).expect(rt, "memory");
+    joined(
+        rt,
+        alloc,
+        &[r#"{"payload":{"a":"#, begins.as_str(), ends.as_str(), "}}"],
+    )
+}
+
 #[test]
 fn nobody_is_asked_to_sign_an_order_that_is_refused(rt: HostRuntime) {
-    let alloc = rt.alloc();
-    let begins = "[".repeat(alloc, 110).expect(&rt, "memory");
-    let ends = "]".repeat(alloc, 110).expect(&rt, "memory");
-    let deep = format!(in alloc; r#"{{"payload":{{"a":{begins}{ends}}}}}"#).expect(&rt, "memory");
-    let (told, asked) = issued(&rt, alloc, deep.as_str(), true);
-    assert_eq!(rt; told.as_str(), "refused 53 payloadTooDeep");
-    assert_eq!(rt; asked.as_str(), "");
+    let deep = deep_order(&rt, rt.alloc(), 110);
+    expect_refused(&rt, rt.alloc(), deep.as_str(), "refused 53 payloadTooDeep");
     for (file, line) in REFUSED {
-        let (told, asked) = issued(&rt, alloc, file, true);
-        assert_eq!(rt; told.as_str(), line);
-        assert_eq!(rt; asked.as_str(), "", "{line}");
+        expect_refused(&rt, rt.alloc(), file, line);
     }
+}
+
+// The token of an order, signed by the key that its file has.
+fn signed_by_key(rt: &impl Abort, alloc: Global) -> TextBox {
+    let file = read_order(alloc, KEYED.as_bytes()).expect(rt, "an order");
+    let mut key = file.key;
+    let parts = issue_owned(alloc, file.order, &SEED, &mut key).expect(rt, "issued");
+    print(alloc, &parts).expect(rt, "memory")
+}
+
+fn to_sign_by(rt: &impl Abort, alloc: Global, alg: &str) -> UnsignedToken {
+    to_sign(alloc, order_of(rt, alloc, UNKEYED), &SEED, alg).expect(rt, "to be signed")
+}
+
+// The same, signed apart.
+fn signed_apart(rt: &impl Abort, alloc: Global) -> TextBox {
+    let token = to_sign_by(rt, alloc, "HS256");
+    let (head, body) = (token.jwt.protected.as_str(), token.jwt.payload.as_str());
+    let mut key = HsKey::new(Alg::Hs256, &[1; 32]).expect(rt, "a key");
+    let signature = key.sign(alloc, head, body).expect(rt, "a signature");
+    let parts = token.signed(alloc, signature.bytes()).expect(rt, "signed");
+    print(alloc, &parts).expect(rt, "memory")
 }
 
 #[test]
 fn a_signature_made_apart_makes_the_same_token(rt: HostRuntime) {
-    let alloc = rt.alloc();
-    let token = to_sign(alloc, order_of(&rt, alloc, UNKEYED), &SEED, "HS256");
-    let token = token.expect(&rt, "to be signed");
-    let (head, body) = (token.jwt.protected.as_str(), token.jwt.payload.as_str());
-    let mut key = HsKey::new(Alg::Hs256, &[1; 32]).expect(&rt, "a key");
-    let signature = key.sign(alloc, head, body).expect(&rt, "a signature");
-    let apart = token.signed(alloc, signature.bytes()).expect(&rt, "signed");
-    let apart = print(alloc, &apart).expect(&rt, "memory");
-    let file = read_order(alloc, KEYED.as_bytes()).expect(&rt, "an order");
-    let mut key = file.key;
-    let whole = issue_owned(alloc, file.order, &SEED, &mut key).expect(&rt, "issued");
-    let whole = print(alloc, &whole).expect(&rt, "memory");
-    assert_eq!(rt; apart.as_str(), whole.as_str());
+    let (apart, whole) = (
+        signed_apart(&rt, rt.alloc()),
+        signed_by_key(&rt, rt.alloc()),
+    );
+    expect_told(&rt, apart.as_str(), whole.as_str(), "");
 }
 
 // The header is `{"alg":"ES256","kid":"k","typ":"t"}`.
 #[test]
 fn the_header_names_the_algorithm_and_no_bytes_are_no_signature(rt: HostRuntime) {
-    let alloc = rt.alloc();
-    let token = to_sign(alloc, order_of(&rt, alloc, UNKEYED), &SEED, "ES256");
-    let token = token.expect(&rt, "to be signed");
-    assert_eq!(rt;
-        token.jwt.protected.as_str(),
-        "eyJhbGciOiJFUzI1NiIsImtpZCI6ImsiLCJ0eXAiOiJ0In0"
-    );
+    let token = to_sign_by(&rt, rt.alloc(), "ES256");
+    let header = "eyJhbGciOiJFUzI1NiIsImtpZCI6ImsiLCJ0eXAiOiJ0In0";
+    expect_told(&rt, token.jwt.protected.as_str(), header, "");
     assert_eq!(rt; token.disclosures.elements().len(), 2);
-    assert!(rt; matches!(token.signed(alloc, b""), Err(IssueError::SignFailed)));
+    assert!(rt; matches!(token.signed(rt.alloc(), b""), Err(IssueError::SignFailed)));
 }
 
-fn most_at_root(alloc: Global) -> Decoy {
-    Decoy {
-        at: Path::new(alloc),
-        count: u32::MAX,
+// A file with a key, and one without a payload.
+#[test]
+fn a_file_of_another_order_is_not_read(rt: HostRuntime) {
+    for (file, fault) in [
+        (KEYED, FileFault::Unknown),
+        ("{}", FileFault::Missing(Field::Payload)),
+    ] {
+        let read = read_unsigned_order(rt.alloc(), file.as_bytes());
+        assert_eq!(rt; read.err(), Some(fault));
     }
 }
 
-// A place that is not in the payload, more decoys than the file of an order can say, and a file with
-// a key or without a payload.
 #[test]
-fn what_is_not_to_be_signed_is_told(rt: HostRuntime) {
-    let alloc = rt.alloc();
-    let order = order_of(&rt, alloc, r#"{"payload":{"a":1},"hide":["/a","/x"]}"#);
-    assert!(rt; matches!(judge(alloc, &order), Err(IssueError::NoSuchPlace(1))));
-    let told = to_sign(alloc, order, &SEED, "ES256");
+fn a_place_that_is_not_there_is_named(rt: HostRuntime) {
+    let order = order_of(&rt, rt.alloc(), r#"{"payload":{"a":1},"hide":["/a","/x"]}"#);
+    assert!(rt; matches!(judge(rt.alloc(), &order), Err(IssueError::NoSuchPlace(1))));
+    let told = to_sign(rt.alloc(), order, &SEED, "ES256");
     assert!(rt; matches!(told, Err(IssueError::NoSuchPlace(1))));
-    let mut order = order_of(&rt, alloc, r#"{"payload":{}}"#);
-    order.decoys.push(most_at_root(alloc)).expect(&rt, "memory");
-    order.decoys.push(most_at_root(alloc)).expect(&rt, "memory");
-    assert!(rt; matches!(judge(alloc, &order), Err(IssueError::TooManyDecoys)));
-    let keyed = read_unsigned_order(alloc, KEYED.as_bytes());
-    assert!(rt; matches!(keyed, Err(FileFault::Unknown)));
-    let empty = read_unsigned_order(alloc, b"{}");
-    assert!(rt; matches!(empty, Err(FileFault::Missing(Field::Payload))));
+}
+
+// Two entries at the root, each of as many decoys as there can be: more than the file of an order
+// can say.
+fn decoys(rt: &impl Abort, alloc: Global) -> DecoyList {
+    let mut decoys = DecoyList::new(alloc);
+    for _ in 0..2 {
+        let (at, count) = (Path::new(alloc), u32::MAX);
+        decoys.push(Decoy { at, count }).expect(rt, "memory");
+    }
+    decoys
+}
+
+#[test]
+fn decoys_are_counted_past_their_type(rt: HostRuntime) {
+    let mut order = order_of(&rt, rt.alloc(), r#"{"payload":{}}"#);
+    order.decoys = decoys(&rt, rt.alloc());
+    assert!(rt; matches!(judge(rt.alloc(), &order), Err(IssueError::TooManyDecoys)));
+}
+
+// The first clash of the texts between blanks.
+fn clash(rt: &impl Abort, alloc: Global, texts: &str) -> Option<(usize, usize)> {
+    let mut list = TextList::new(alloc);
+    for text in texts.split_whitespace() {
+        let text = TextBox::make(alloc, text).expect(rt, "memory");
+        list.push(text).expect(rt, "memory");
+    }
+    first_clash(alloc, &list).expect(rt, "memory")
 }
 
 #[test]
 fn the_first_clash_is_named_by_its_places(rt: HostRuntime) {
-    let alloc = rt.alloc();
-    for (texts, clash) in [
+    for (texts, found) in [
         ("x y x", Some((0, 2))),
         ("x y", None),
         ("x", None),
@@ -190,12 +238,6 @@ fn the_first_clash_is_named_by_its_places(rt: HostRuntime) {
         ("a b c d d a", Some((3, 4))),
         ("a A", None),
     ] {
-        let mut list = TextList::new(alloc);
-        for text in texts.split_whitespace() {
-            let text = TextBox::make(alloc, text).expect(&rt, "memory");
-            list.push(text).expect(&rt, "memory");
-        }
-        let found = first_clash(alloc, &list).expect(&rt, "memory");
-        assert_eq!(rt; found, clash, "{texts}");
+        assert_eq!(rt; clash(&rt, rt.alloc(), texts), found, "{texts}");
     }
 }

@@ -1,5 +1,6 @@
 // Verdicts where the caller checks the signatures, over the presentation of RFC 9901 section 5.2 as
 // it stands there.
+use crate::tell::{expect_told, joined};
 use claim_tree::{Tree, write};
 use digest_index::Steps;
 use key_binding::SignatureAnswer::{Bad, Good, Unknown};
@@ -31,8 +32,7 @@ pub(crate) fn asked(rt: &impl Abort, alloc: Global, whom: &str, question: &Quest
 
 fn with_claims(rt: &impl Abort, alloc: Global, line: &str, claims: &Tree) -> String {
     let claims = write(alloc, claims).expect(rt, "memory");
-    let claims = claims.as_str();
-    format!(in alloc; "{line} {claims}").expect(rt, "memory")
+    joined(rt, alloc, &[line, " ", claims.as_str()])
 }
 
 fn told(rt: &impl Abort, alloc: Global, answer: &Result<Judgement, JudgeError>) -> String {
@@ -46,7 +46,8 @@ fn told(rt: &impl Abort, alloc: Global, answer: &Result<Judgement, JudgeError>) 
             let line = asked(rt, alloc, "asks holder", question);
             with_claims(rt, alloc, line.as_str(), claims)
         }
-        Err(error) => format!(in alloc; "{error:?}").expect(rt, "memory"),
+        Err(JudgeError::NotAsked) => joined(rt, alloc, &["not asked"]),
+        Err(JudgeError::Memory) => panic!(rt; "memory"),
     }
 }
 
@@ -147,7 +148,7 @@ const TOLD: [(&str, &str, &str, Answers, &str, &str); 17] = [
         "refused 9 issuerKeyUnknown",
         "",
     ),
-    (PRESENTED, UNBOUND, "ES256", Holder(Good), "NotAsked", ""),
+    (PRESENTED, UNBOUND, "ES256", Holder(Good), "not asked", ""),
     // the holder signs by another algorithm
     (
         PRESENTED,
@@ -157,7 +158,7 @@ const TOLD: [(&str, &str, &str, Answers, &str, &str); 17] = [
         "refused 29 bindingAlg",
         "",
     ),
-    (PRESENTED, BOUND, "ES384", Holder(Good), "NotAsked", ""),
+    (PRESENTED, BOUND, "ES384", Holder(Good), "not asked", ""),
     // an algorithm of shared keys has to be in the list, and no list can name `none`
     (
         BY_SHARED,
@@ -198,8 +199,7 @@ const TOLD: [(&str, &str, &str, Answers, &str, &str); 17] = [
 fn the_caller_is_asked_for_each_signature_and_its_answer_decides(rt: HostRuntime) {
     let alloc = rt.alloc();
     for (text, file, alg, answers, line, claims) in TOLD {
-        let wanted = format!(in alloc; "{line}{claims}").expect(&rt, "memory");
         let told = judged(&rt, alloc, text, file, alg, answers);
-        assert_eq!(rt; told.as_str(), wanted.as_str(), "{alg} {answers:?}");
+        expect_told(&rt, told.as_str(), line, claims);
     }
 }

@@ -22,6 +22,8 @@ mod presenting_tests;
 #[cfg(test)]
 mod recording;
 #[cfg(test)]
+mod tell;
+#[cfg(test)]
 mod verifier_tests;
 #[cfg(test)]
 mod wallet_tests;

@@ -1,13 +1,14 @@
 // Presenting where the caller checks the issuer's signature and makes the holder's, over the token
 // of RFC 9901 section 5.2 without its key binding token.
+use crate::holder_tests::why;
 use crate::judge_tests::{PRESENTED, asked};
 use crate::recording::noted;
+use crate::tell::{expect_told, joined};
 use claim_tree::{Path, write};
 use compact_form::{Parts, print};
 use digest_index::Steps;
 use holder_core::{
     PresentError, Presentation, UnsignedPresentation, present_unsigned, read_unsigned_present,
-    refusal_line,
 };
 use key_binding::SignatureAnswer::{self, Bad, Good, Unknown};
 use selection_core::Consent;
@@ -38,7 +39,7 @@ const BINDING: &str =
 fn sent(rt: &impl Abort, alloc: Global, parts: &Parts) -> String {
     let text = print(alloc, parts).expect(rt, "memory");
     let (_, behind) = text.as_str().split_once('~').expect(rt, "a token");
-    format!(in alloc; "~{behind}").expect(rt, "memory")
+    joined(rt, alloc, &["~", behind])
 }
 
 // What is to be signed, and what is sent with these bytes as its signature. The payload beside it
@@ -52,10 +53,10 @@ fn to_sign(
     let payload = write(alloc, &unsigned.payload).expect(rt, "memory");
     assert!(rt; payload.as_str().contains(r#""cnf":{"jwk":{"crv":"P-256""#));
     let text = unsigned.binding.text(alloc).expect(rt, "memory");
-    assert_eq!(rt; text.as_str(), BINDING);
+    expect_told(rt, text.as_str(), BINDING, "");
     match unsigned.signed(alloc, signature) {
         Ok(parts) => sent(rt, alloc, &parts),
-        Err(error) => format!(in alloc; "{error:?}").expect(rt, "memory"),
+        Err(error) => why(rt, alloc, &error),
     }
 }
 
@@ -71,9 +72,7 @@ fn told(
         Ok(Presentation::AsksIssuer(question)) => asked(rt, alloc, "asks", &question),
         Ok(Presentation::ToSign(unsigned)) => to_sign(rt, alloc, unsigned, signature),
         Ok(Presentation::Presented(parts)) => sent(rt, alloc, &parts),
-        Err(error) => refusal_line(alloc, &error)
-            .expect(rt, "memory")
-            .into_string(),
+        Err(error) => why(rt, alloc, &error),
     }
 }
 
@@ -87,7 +86,7 @@ fn presented(
 ) -> (Result<Presentation, PresentError>, u64) {
     let said = read_unsigned_present(alloc, order.as_bytes()).expect(rt, "an order");
     let (token, _) = PRESENTED.rsplit_once('~').expect(rt, "a token");
-    let token = format!(in alloc; "{token}~").expect(rt, "memory");
+    let token = joined(rt, alloc, &[token, "~"]);
     let places = Cell::new(0);
     let consent = Consent::new(|place: &Path| noted(&places, place));
     let (text, steps) = (token.as_bytes(), &mut Steps::new());
@@ -95,20 +94,21 @@ fn presented(
     (answer, places.get())
 }
 
-// An order, what the caller says of the issuer's signature, the bytes of the holder's, what is told,
-// and what follows it. No rule is asked before the issuer's signature is said to be good.
-const TOLD: [(&str, Option<SignatureAnswer>, &[u8], u64, &str, &str); 9] = [
-    (ALONE, None, b"", 0, "asks ES256 64 1099", ""),
-    (BOUND, None, b"", 0, "asks ES256 64 1099", ""),
-    (OTHER_ALG, None, b"", 0, "refused 7 algRefused", ""),
-    (BOUND, Some(Bad), b"", 0, "refused 10 badSignature", ""),
+// An order, what the caller says of the issuer's signature, the bytes of the holder's, how deep the
+// places are that the rule is asked for, and what is told. No rule is asked before the issuer's
+// signature is said to be good.
+const TOLD: [(&str, Option<SignatureAnswer>, &[u8], u64, &str, &[&str]); 9] = [
+    (ALONE, None, b"", 0, "asks ES256 64 1099", &[]),
+    (BOUND, None, b"", 0, "asks ES256 64 1099", &[]),
+    (OTHER_ALG, None, b"", 0, "refused 7 algRefused", &[]),
+    (BOUND, Some(Bad), b"", 0, "refused 10 badSignature", &[]),
     (
         ALONE,
         Some(Unknown),
         b"",
         0,
         "refused 9 issuerKeyUnknown",
-        "",
+        &[],
     ),
     (
         KEY_NAMED,
@@ -116,23 +116,29 @@ const TOLD: [(&str, Option<SignatureAnswer>, &[u8], u64, &str, &str); 9] = [
         b"",
         0,
         "refused 74 bindingKeyDiffers",
-        "",
+        &[],
     ),
-    (ALONE, Some(Good), b"", 1, GIVEN_NAME, ""),
+    (ALONE, Some(Good), b"", 1, GIVEN_NAME, &[]),
     // no bytes are no signature
-    (BOUND, Some(Good), b"", 1, "SignFailed", ""),
-    (BOUND, Some(Good), b"SIGNED", 1, GIVEN_NAME, ".U0lHTkVE"),
+    (BOUND, Some(Good), b"", 1, "fails", &[]),
+    (
+        BOUND,
+        Some(Good),
+        b"SIGNED",
+        1,
+        GIVEN_NAME,
+        &[BINDING, ".U0lHTkVE"],
+    ),
 ];
 
 #[test]
 fn a_caller_says_what_the_issuer_signed_and_signs_itself(rt: HostRuntime) {
     let alloc = rt.alloc();
-    for (order, answer, signature, places, line, end) in TOLD {
-        let binding = if end.is_empty() { "" } else { BINDING };
-        let wanted = format!(in alloc; "{line}{binding}{end}").expect(&rt, "memory");
+    for (order, answer, signature, places, line, behind) in TOLD {
         let (presentation, asked) = presented(&rt, alloc, order, answer);
+        assert_eq!(rt; asked, places, "{line}");
         let told = told(&rt, alloc, presentation, signature);
-        assert_eq!(rt; told.as_str(), wanted.as_str(), "{order} {answer:?}");
-        assert_eq!(rt; asked, places, "{order} {answer:?}");
+        let behind = joined(&rt, alloc, behind);
+        expect_told(&rt, told.as_str(), line, behind.as_str());
     }
 }

@@ -1,5 +1,6 @@
 // The look-ups of digests, which no run of the program shows, in each way to check a token: each
 // digest that is shown is looked up once, and each disclosure.
+use crate::tell::{counted, expect_told};
 use claim_tree::{Tree, write};
 use compact_form::View;
 use digest_index::Steps;
@@ -46,8 +47,7 @@ const TOLD: [(&str, &str); 7] = [
 // The look-ups, and the payload of what is accepted.
 fn accepted(rt: &impl Abort, alloc: Global, steps: &Steps, payload: &Tree) -> String {
     let text = write(alloc, payload).expect(rt, "memory");
-    let (count, text) = (steps.count(), text.as_str());
-    format!(in alloc; "{count} {text}").expect(rt, "memory")
+    counted(rt, alloc, steps.count(), text.as_str())
 }
 
 // The look-ups, and the line of the refusal.
@@ -56,8 +56,7 @@ fn refused(rt: &impl Abort, alloc: Global, steps: &Steps, error: VerifyError) ->
         panic!(rt; "memory");
     };
     let line = fault_line(alloc, &fault).expect(rt, "memory");
-    let (count, line) = (steps.count(), line.as_str());
-    format!(in alloc; "{count} {line}").expect(rt, "memory")
+    counted(rt, alloc, steps.count(), line.as_str())
 }
 
 fn verified(rt: &impl Abort, alloc: Global, text: &str, policy: &Policy) -> String {
@@ -112,25 +111,13 @@ fn each_digest_and_each_disclosure_is_looked_up_once(rt: HostRuntime) {
     let alloc = rt.alloc();
     let policy = read_policy(alloc, POLICY.as_bytes()).expect(&rt, "a policy");
     for (text, wanted) in TOLD {
-        assert_eq!(rt;
-            verified(&rt, alloc, text, &policy).as_str(),
-            wanted,
-            "{text}"
-        );
-        assert_eq!(rt;
-            token_checked(&rt, alloc, text, &policy).as_str(),
-            wanted,
-            "{text}"
-        );
-        assert_eq!(rt;
-            view_checked(&rt, alloc, text, &policy).as_str(),
-            wanted,
-            "{text}"
-        );
-        assert_eq!(rt;
-            opened(&rt, alloc, text, &policy).as_str(),
-            wanted,
-            "{text}"
-        );
+        for told in [
+            verified(&rt, alloc, text, &policy),
+            token_checked(&rt, alloc, text, &policy),
+            view_checked(&rt, alloc, text, &policy),
+            opened(&rt, alloc, text, &policy),
+        ] {
+            expect_told(&rt, told.as_str(), wanted, "");
+        }
     }
 }
