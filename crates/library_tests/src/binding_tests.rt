@@ -1,7 +1,7 @@
 // Key binding tokens that are written and judged.
-use crate::tell::expect_told;
+use crate::tell::{expect_told, jwt_text};
 use claim_tree::{Tree, read};
-use compact_form::{JwtParts, print_jwt};
+use compact_form::JwtParts;
 use disclosure::HashAlg::Sha256;
 use hmac_sign::{FailSigner, Hs256Key, KeySet};
 use key_binding::{
@@ -38,7 +38,7 @@ const UNSIGNED: &str =
 
 #[test]
 fn what_is_bound_is_written(rt: HostRuntime) {
-    let text = print_jwt(rt.alloc(), &bound(&rt, rt.alloc())).expect(&rt, "memory");
+    let text = jwt_text(&rt, rt.alloc(), &bound(&rt, rt.alloc()));
     expect_told(&rt, text.as_str(), BOUND, "");
 }
 

@@ -1,9 +1,9 @@
 // What a holder is told, and what its rule and its signer are asked: nothing where the token is
 // refused, and else just what is sent, once.
 use crate::recording::{Recorder, noted};
-use crate::tell::{expect_told, joined, noticed};
+use crate::tell::{expect_told, joined, noticed, signed_text};
 use claim_tree::Path;
-use compact_form::{Parts, print};
+use compact_form::Parts;
 use digest_index::Steps;
 use holder_core::{PresentError, present, read_present, refusal_line};
 use selection_core::Consent;
@@ -37,14 +37,6 @@ const BY_ADDRESS: &str =
 const BY_NEITHER: &str =
     " eyJhbGciOiJIUzI1NiIsInR5cCI6ImtiK2p3dCJ9.eyJhdWQiOiJ2IiwiaWF0IjowLCJub25jZSI6Im4iLCJzZF9oYXNoIjoibXZ4ZDNIY0l4TVJvZ0lualdBS3lvSThpb1hNLUJFamkzVC1MMDJWVHBDUSJ9";
 
-// The text that the last JWT of a compact token is signed over, behind a blank, or nothing.
-pub(crate) fn signed_text(rt: &impl Abort, alloc: Global, jwt: &str) -> String {
-    match jwt.rsplit_once('.') {
-        Some((text, _)) => joined(rt, alloc, &[" ", text]),
-        None => String::new(alloc),
-    }
-}
-
 // Why nothing is presented.
 pub(crate) fn why(rt: &impl Abort, alloc: Global, error: &PresentError) -> String {
     match error {
@@ -57,9 +49,10 @@ pub(crate) fn why(rt: &impl Abort, alloc: Global, error: &PresentError) -> Strin
 
 // How many disclosures are sent. The signer was asked to sign what is sent.
 fn sent(rt: &impl Abort, alloc: Global, parts: &Parts, asked: &str) -> String {
-    let text = print(alloc, parts).expect(rt, "memory");
-    let (_, jwt) = text.as_str().rsplit_once('~').expect(rt, "a token");
-    let signed = signed_text(rt, alloc, jwt);
+    let signed = match &parts.binding {
+        Some(jwt) => signed_text(rt, alloc, jwt),
+        None => String::new(alloc),
+    };
     expect_told(rt, asked, signed.as_str(), "");
     let count = parts.disclosures.len();
     format!(in alloc; "sends {count}").expect(rt, "memory")

@@ -5,11 +5,10 @@ ghost use Rattle.sd_outside.specs.Limits.{json_depth_max};
 ghost use Rattle.claim_tree.specs.Tree.{depth};
 ghost use Rattle.claim_tree.specs.View.{tree_of};
 
-use crate::holder_tests::signed_text;
 use crate::recording::Recorder;
-use crate::tell::{expect_told, joined};
+use crate::tell::{behind, expect_told, joined, jwt_text, signed_text};
 use claim_tree::Path;
-use compact_form::{Parts, print};
+use compact_form::Parts;
 use file_members::{Field, FileFault};
 use hmac_sign::{Alg, HsKey, Signer};
 use issuer_core::{
@@ -35,17 +34,10 @@ fn order_of(rt: &impl Abort, alloc: Global, file: &str) -> Order
     read_unsigned_order(alloc, file.as_bytes()).expect(rt, "an order")
 }
 
-// The text that is signed of what is issued, behind a blank.
-fn signed_of(rt: &impl Abort, alloc: Global, parts: &Parts) -> String {
-    let text = print(alloc, parts).expect(rt, "memory");
-    let (jwt, _) = text.as_str().split_once('~').expect(rt, "a token");
-    signed_text(rt, alloc, jwt)
-}
-
-// The same, or why nothing is issued.
+// The text that is signed of what is issued, or why nothing is.
 fn told(rt: &impl Abort, alloc: Global, answer: &Result<Parts, IssueError>) -> String {
     match answer {
-        Ok(parts) => signed_of(rt, alloc, parts),
+        Ok(parts) => signed_text(rt, alloc, &parts.signed),
         Err(IssueError::SignFailed) => joined(rt, alloc, &["fails"]),
         Err(error) => refusal_line(alloc, error)
             .expect(rt, "memory")
@@ -137,12 +129,17 @@ fn nobody_is_asked_to_sign_an_order_that_is_refused(rt: HostRuntime) {
     }
 }
 
+fn compact(rt: &impl Abort, alloc: Global, parts: &Parts) -> String {
+    let (jwt, behind) = (jwt_text(rt, alloc, &parts.signed), behind(rt, alloc, parts));
+    joined(rt, alloc, &[jwt.as_str(), behind.as_str()])
+}
+
 // The token of an order, signed by the key that its file has.
-fn signed_by_key(rt: &impl Abort, alloc: Global) -> TextBox {
+fn signed_by_key(rt: &impl Abort, alloc: Global) -> String {
     let file = read_order(alloc, KEYED.as_bytes()).expect(rt, "an order");
     let mut key = file.key;
     let parts = issue_owned(alloc, file.order, &SEED, &mut key).expect(rt, "issued");
-    print(alloc, &parts).expect(rt, "memory")
+    compact(rt, alloc, &parts)
 }
 
 fn to_sign_by(rt: &impl Abort, alloc: Global, alg: &str) -> UnsignedToken {
@@ -150,13 +147,13 @@ fn to_sign_by(rt: &impl Abort, alloc: Global, alg: &str) -> UnsignedToken {
 }
 
 // The same, signed apart.
-fn signed_apart(rt: &impl Abort, alloc: Global) -> TextBox {
+fn signed_apart(rt: &impl Abort, alloc: Global) -> String {
     let token = to_sign_by(rt, alloc, "HS256");
     let (head, body) = (token.jwt.protected.as_str(), token.jwt.payload.as_str());
     let mut key = HsKey::new(Alg::Hs256, &[1; 32]).expect(rt, "a key");
     let signature = key.sign(alloc, head, body).expect(rt, "a signature");
     let parts = token.signed(alloc, signature.bytes()).expect(rt, "signed");
-    print(alloc, &parts).expect(rt, "memory")
+    compact(rt, alloc, &parts)
 }
 
 #[test]

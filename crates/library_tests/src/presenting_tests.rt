@@ -3,9 +3,9 @@
 use crate::holder_tests::why;
 use crate::judge_tests::{PRESENTED, asked};
 use crate::recording::noted;
-use crate::tell::{expect_told, joined};
+use crate::tell::{behind, expect_told, joined, jwt_text};
 use claim_tree::{Path, write};
-use compact_form::{Parts, print};
+use compact_form::Parts;
 use digest_index::Steps;
 use holder_core::{
     PresentError, Presentation, UnsignedPresentation, present_unsigned, read_unsigned_present,
@@ -37,9 +37,12 @@ const BINDING: &str =
 
 // What is sent behind the JWT of the issuer.
 fn sent(rt: &impl Abort, alloc: Global, parts: &Parts) -> String {
-    let text = print(alloc, parts).expect(rt, "memory");
-    let (_, behind) = text.as_str().split_once('~').expect(rt, "a token");
-    joined(rt, alloc, &["~", behind])
+    let disclosures = behind(rt, alloc, parts);
+    let binding = match &parts.binding {
+        Some(jwt) => jwt_text(rt, alloc, jwt),
+        None => String::new(alloc),
+    };
+    joined(rt, alloc, &[disclosures.as_str(), binding.as_str()])
 }
 
 // What is to be signed, and what is sent with these bytes as its signature. The payload beside it
@@ -134,11 +137,11 @@ const TOLD: [(&str, Option<SignatureAnswer>, &[u8], u64, &str, &[&str]); 9] = [
 #[test]
 fn a_caller_says_what_the_issuer_signed_and_signs_itself(rt: HostRuntime) {
     let alloc = rt.alloc();
-    for (order, answer, signature, places, line, behind) in TOLD {
+    for (order, answer, signature, places, line, rest) in TOLD {
         let (presentation, asked) = presented(&rt, alloc, order, answer);
         assert_eq!(rt; asked, places, "{line}");
         let told = told(&rt, alloc, presentation, signature);
-        let behind = joined(&rt, alloc, behind);
-        expect_told(&rt, told.as_str(), line, behind.as_str());
+        let rest = joined(&rt, alloc, rest);
+        expect_told(&rt, told.as_str(), line, rest.as_str());
     }
 }
