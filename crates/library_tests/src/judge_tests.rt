@@ -1,15 +1,14 @@
-// Verdicts where the caller checks the signatures, over the presentation of RFC
-// 9901 section 5.2 as it stands there.
-
-use claim_tree::write;
+// Verdicts where the caller checks the signatures, over the presentation of RFC 9901 section 5.2 as
+// it stands there.
+use crate::tell::{expect_told, joined};
+use claim_tree::{Tree, write};
 use digest_index::Steps;
 use key_binding::SignatureAnswer::{Bad, Good, Unknown};
 use sd_outside::{TextBox, TextList};
 use std::alloc::Global;
-use std::test::Fail;
-use verifier_core::{
-    Answers, JudgeError, Judgement, Policy, Question, fault_line, judge, read_policy,
-};
+use std::process::Abort;
+use verifier_core::Answers::{Holder, Issuer, Nothing};
+use verifier_core::{Answers, JudgeError, Judgement, Question, fault_line, judge, read_policy};
 
 // Both its signatures are made with ES256.
 pub(crate) const PRESENTED: &str =
@@ -23,124 +22,51 @@ const BOUND: &str =
 // The moment at which the presentation was made.
 const NOW: u64 = 1_748_537_244;
 
-fn told(alloc: Global, before: &str, text: &str) -> Result<TextBox, Fail> {
-    Ok(TextBox::from_string(format!(in alloc; "{before} {text}")?))
-}
-
-// What a question asks: the algorithm, how many bytes the signature has, and
-// the ends of what is signed.
-fn asks(alloc: Global, whom: &str, question: &Question) -> Result<TextBox, Fail> {
+// What a question asks: the algorithm, how many bytes the signature has, and how many the text that
+// it is over.
+pub(crate) fn asked(rt: &impl Abort, alloc: Global, whom: &str, question: &Question) -> String {
     let (alg, text) = (question.header.alg.as_str(), question.text.as_str());
     let (count, length) = (question.signature.bytes().len(), text.len());
-    let asked = format!(in alloc; "{alg} {count} {length}")?;
-    told(alloc, whom, asked.as_str())
+    format!(in alloc; "{whom} {alg} {count} {length}").expect(rt, "memory")
 }
 
-fn judgement_text(alloc: Global, judgement: Judgement) -> Result<TextBox, Fail> {
-    match judgement {
-        Judgement::Accepted(payload) => told(alloc, "accepted", write(alloc, &payload)?.as_str()),
-        Judgement::Refused(fault) => Ok(fault_line(alloc, &fault)?),
-        Judgement::AsksIssuer(question) => asks(alloc, "asks issuer", &question),
-        Judgement::AsksHolder(question, payload) => {
-            let asked = asks(alloc, "asks holder", &question)?;
-            told(alloc, asked.as_str(), write(alloc, &payload)?.as_str())
+fn with_claims(rt: &impl Abort, alloc: Global, line: &str, claims: &Tree) -> String {
+    let claims = write(alloc, claims).expect(rt, "memory");
+    joined(rt, alloc, &[line, " ", claims.as_str()])
+}
+
+fn told(rt: &impl Abort, alloc: Global, answer: &Result<Judgement, JudgeError>) -> String {
+    match answer {
+        Ok(Judgement::Accepted(claims)) => with_claims(rt, alloc, "accepted", claims),
+        Ok(Judgement::Refused(fault)) => {
+            fault_line(alloc, fault).expect(rt, "memory").into_string()
         }
+        Ok(Judgement::AsksIssuer(question)) => asked(rt, alloc, "asks issuer", question),
+        Ok(Judgement::AsksHolder(question, claims)) => {
+            let line = asked(rt, alloc, "asks holder", question);
+            with_claims(rt, alloc, line.as_str(), claims)
+        }
+        Err(JudgeError::NotAsked) => joined(rt, alloc, &["not asked"]),
+        Err(JudgeError::Memory) => panic!(rt; "memory"),
     }
 }
 
-fn algs(alloc: Global, name: &str) -> Result<TextList, Fail> {
-    let mut algs = TextList::new(alloc);
-    algs.push(TextBox::make(alloc, name)?)?;
-    Ok(algs)
-}
-
-fn judged(alloc: Global, file: &str, holder_alg: &str, answers: Answers) -> Result<TextBox, Fail> {
-    judged_text(alloc, PRESENTED, file, holder_alg, answers)
-}
-
-fn judged_text(
+// What is told of a token under a policy, where the holder may sign by this algorithm.
+fn judged(
+    rt: &impl Abort,
     alloc: Global,
     text: &str,
     file: &str,
-    holder_alg: &str,
+    alg: &str,
     answers: Answers,
-) -> Result<TextBox, Fail> {
-    let policy = read_policy(alloc, file.as_bytes()).map_err(|_| "no policy")?;
-    let algs = algs(alloc, holder_alg)?;
-    match judge(
-        alloc,
-        text.as_bytes(),
-        &policy,
-        &algs,
-        NOW,
-        answers,
-        &mut Steps::new(),
-    ) {
-        Ok(judgement) => judgement_text(alloc, judgement),
-        Err(JudgeError::NotAsked) => Ok(TextBox::make(alloc, "not asked")?),
-        Err(JudgeError::Memory) => Err("no memory".into()),
-    }
-}
-
-// The claims as the RFC prints them, in the order of their names.
-const CLAIMS: &str =
-    r#"{"address":{"country":"US","locality":"Anytown","region":"Anystate","street_address":"123 Main St"},"cnf":{"jwk":{"crv":"P-256","kty":"EC","x":"TCAER19Zvu3OHF4j4W4vfSVoHIP1ILilDls7vCeGemc","y":"ZxjiWWbZMQGHVWKVQ4hbSIirsVfuecCE6t4jT9F2HZQ"}},"exp":1883000000,"family_name":"Doe","given_name":"John","iat":1683000000,"iss":"https://issuer.example.com","nationalities":["US"],"sub":"user_42"}"#;
-
-// What is told after each answer that is given when it is asked for.
-#[test]
-fn the_caller_is_asked_for_each_signature(rt: HostRuntime) -> Result<(), Fail> {
-    let alloc = rt.alloc();
-    for (answers, wanted) in [
-        (
-            Answers::Nothing,
-            TextBox::make(alloc, "asks issuer ES256 64 1099")?,
-        ),
-        (
-            Answers::Issuer(Good),
-            told(alloc, "asks holder ES256 64 231", CLAIMS)?,
-        ),
-        (Answers::Holder(Good), told(alloc, "accepted", CLAIMS)?),
-    ] {
-        let found = judged(alloc, BOUND, "ES256", answers)?;
-        assert_eq!(rt; found.as_str(), wanted.as_str());
-    }
-    Ok(())
-}
-
-// What is told of what is said, where no binding is asked for, where one is, and where the holder's
-// algorithm is another.
-const UNBOUND_TOLD: [(Answers, &str); 4] = [
-    (Answers::Nothing, "asks issuer ES256 64 1099"),
-    (Answers::Issuer(Bad), "refused 10 badSignature"),
-    (Answers::Issuer(Unknown), "refused 9 issuerKeyUnknown"),
-    (Answers::Holder(Good), "not asked"),
-];
-
-const BOUND_TOLD: [(Answers, &str); 3] = [
-    (Answers::Issuer(Bad), "refused 10 badSignature"),
-    (Answers::Holder(Bad), "refused 30 bindingSignature"),
-    (Answers::Holder(Unknown), "refused 27 holderKeyUnknown"),
-];
-
-const OTHER_ALG_TOLD: [(Answers, &str); 2] = [
-    (Answers::Issuer(Good), "refused 29 bindingAlg"),
-    (Answers::Holder(Good), "not asked"),
-];
-
-#[test]
-fn an_answer_decides_its_condition(rt: HostRuntime) -> Result<(), Fail> {
-    let alloc = rt.alloc();
-    for (file, alg, told) in [
-        (UNBOUND, "ES256", UNBOUND_TOLD.as_slice()),
-        (BOUND, "ES256", BOUND_TOLD.as_slice()),
-        (BOUND, "ES384", OTHER_ALG_TOLD.as_slice()),
-    ] {
-        for (answers, wanted) in told {
-            let found = judged(alloc, file, alg, *answers)?;
-            assert_eq!(rt; found.as_str(), *wanted, "{answers:?}");
-        }
-    }
-    Ok(())
+) -> String {
+    let policy = read_policy(alloc, file.as_bytes()).expect(rt, "a policy");
+    let alg = TextBox::make(alloc, alg).expect(rt, "memory");
+    let mut algs = TextList::new(alloc);
+    algs.push(alg).expect(rt, "memory");
+    let steps = &mut Steps::new();
+    let answer = judge(alloc, text.as_bytes(), &policy, &algs, NOW, answers, steps);
+    told(rt, alloc, &answer)
 }
 
 // Two tokens with key binding tokens of HS256. The one is of HS256, and the other of `none`.
@@ -149,52 +75,131 @@ const BY_SHARED: &str =
 
 const BY_NONE: &str = "eyJhbGciOiJub25lIn0.e30.AA~eyJhbGciOiJIUzI1NiIsInR5cCI6ImtiK2p3dCJ9.e30.AA";
 
-// What is told of them under a policy, and an algorithm of holders: a list has to name HS256, and
-// no list can name `none`.
-const LISTED_TOLD: [(&str, &str, &str, Answers, &str); 5] = [
+// The claims as the RFC prints them, in the order of their names.
+const CLAIMS: &str =
+    r#"{"address":{"country":"US","locality":"Anytown","region":"Anystate","street_address":"123 Main St"},"cnf":{"jwk":{"crv":"P-256","kty":"EC","x":"TCAER19Zvu3OHF4j4W4vfSVoHIP1ILilDls7vCeGemc","y":"ZxjiWWbZMQGHVWKVQ4hbSIirsVfuecCE6t4jT9F2HZQ"}},"exp":1883000000,"family_name":"Doe","given_name":"John","iat":1683000000,"iss":"https://issuer.example.com","nationalities":["US"],"sub":"user_42"}"#;
+
+// What is told of a token under a policy, and an algorithm of holders, behind which come claims.
+const TOLD: [(&str, &str, &str, Answers, &str, &str); 17] = [
+    // each answer is given when it is asked for
+    (
+        PRESENTED,
+        BOUND,
+        "ES256",
+        Nothing,
+        "asks issuer ES256 64 1099",
+        "",
+    ),
+    (
+        PRESENTED,
+        BOUND,
+        "ES256",
+        Issuer(Good),
+        "asks holder ES256 64 231 ",
+        CLAIMS,
+    ),
+    (PRESENTED, BOUND, "ES256", Holder(Good), "accepted ", CLAIMS),
+    (
+        PRESENTED,
+        BOUND,
+        "ES256",
+        Issuer(Bad),
+        "refused 10 badSignature",
+        "",
+    ),
+    (
+        PRESENTED,
+        BOUND,
+        "ES256",
+        Holder(Bad),
+        "refused 30 bindingSignature",
+        "",
+    ),
+    (
+        PRESENTED,
+        BOUND,
+        "ES256",
+        Holder(Unknown),
+        "refused 27 holderKeyUnknown",
+        "",
+    ),
+    // no binding is asked for
+    (
+        PRESENTED,
+        UNBOUND,
+        "ES256",
+        Nothing,
+        "asks issuer ES256 64 1099",
+        "",
+    ),
+    (
+        PRESENTED,
+        UNBOUND,
+        "ES256",
+        Issuer(Bad),
+        "refused 10 badSignature",
+        "",
+    ),
+    (
+        PRESENTED,
+        UNBOUND,
+        "ES256",
+        Issuer(Unknown),
+        "refused 9 issuerKeyUnknown",
+        "",
+    ),
+    (PRESENTED, UNBOUND, "ES256", Holder(Good), "not asked", ""),
+    // the holder signs by another algorithm
+    (
+        PRESENTED,
+        BOUND,
+        "ES384",
+        Issuer(Good),
+        "refused 29 bindingAlg",
+        "",
+    ),
+    (PRESENTED, BOUND, "ES384", Holder(Good), "not asked", ""),
+    // an algorithm of shared keys has to be in the list, and no list can name `none`
     (
         BY_SHARED,
         BOUND,
         "ES256",
-        Answers::Nothing,
+        Nothing,
         "asks issuer HS256 1 24",
+        "",
     ),
     (
         BY_SHARED,
         UNBOUND,
         "HS256",
-        Answers::Nothing,
+        Nothing,
         "refused 7 algRefused",
+        "",
     ),
-    (
-        BY_NONE,
-        BOUND,
-        "none",
-        Answers::Nothing,
-        "refused 7 algRefused",
-    ),
+    (BY_NONE, BOUND, "none", Nothing, "refused 7 algRefused", ""),
     (
         BY_SHARED,
         BOUND,
         "HS256",
-        Answers::Issuer(Good),
+        Issuer(Good),
         "asks holder HS256 1 44 {}",
+        "",
     ),
     (
         BY_SHARED,
         BOUND,
         "ES256",
-        Answers::Issuer(Good),
+        Issuer(Good),
         "refused 29 bindingAlg",
+        "",
     ),
 ];
 
 #[test]
-fn an_algorithm_of_shared_keys_is_taken_where_a_list_names_it(rt: HostRuntime) -> Result<(), Fail> {
+fn the_caller_is_asked_for_each_signature_and_its_answer_decides(rt: HostRuntime) {
     let alloc = rt.alloc();
-    for (text, file, alg, answers, wanted) in LISTED_TOLD {
-        let found = judged_text(alloc, text, file, alg, answers)?;
-        assert_eq!(rt; found.as_str(), wanted, "{alg} {answers:?}");
+    for (text, file, alg, answers, line, claims) in TOLD {
+        let told = judged(&rt, alloc, text, file, alg, answers);
+        expect_told(&rt, told.as_str(), line, claims);
     }
-    Ok(())
 }

@@ -20,7 +20,9 @@ mod look_up_tests;
 #[cfg(test)]
 mod presenting_tests;
 #[cfg(test)]
-mod signing_tests;
+mod recording;
+#[cfg(test)]
+mod tell;
 #[cfg(test)]
 mod verifier_tests;
 #[cfg(test)]

@@ -1,19 +1,20 @@
 // Presenting where the caller checks the issuer's signature and makes the holder's, over the token
 // of RFC 9901 section 5.2 without its key binding token.
-
-use crate::judge_tests::PRESENTED;
+use crate::holder_tests::why;
+use crate::judge_tests::{PRESENTED, asked};
+use crate::recording::noted;
+use crate::tell::{behind, expect_told, joined, jwt_text};
 use claim_tree::{Path, write};
-use compact_form::{JwtParts, Parts};
+use compact_form::Parts;
 use digest_index::Steps;
 use holder_core::{
     PresentError, Presentation, UnsignedPresentation, present_unsigned, read_unsigned_present,
-    refusal_line,
 };
-use key_binding::SignatureAnswer;
-use sd_outside::TextBox;
+use key_binding::SignatureAnswer::{self, Bad, Good, Unknown};
 use selection_core::Consent;
 use std::alloc::Global;
-use std::test::Fail;
+use std::cell::Cell;
+use std::process::Abort;
 
 const ALONE: &str = r#"{"algs":["ES256"],"want":["/given_name"]}"#;
 
@@ -26,123 +27,121 @@ const KEY_NAMED: &str =
 
 const OTHER_ALG: &str = r#"{"algs":["ES384"],"want":[]}"#;
 
-const GIVEN_NAME: &str = "WyIyR0xDNDJzS1F2ZUNmR2ZyeU5STjl3IiwgImdpdmVuX25hbWUiLCAiSm9obiJd";
+// What is sent behind the JWT of the issuer: the disclosure of the given name.
+const GIVEN_NAME: &str = "~WyIyR0xDNDJzS1F2ZUNmR2ZyeU5STjl3IiwgImdpdmVuX25hbWUiLCAiSm9obiJd~";
 
 // `{"alg":"ES384","typ":"kb+jwt"}` and, with the hash of what stands before it,
 // `{"aud":"v","iat":1000,"nonce":"n","sd_hash":"3tB8zOIgGsVX3vCF4fUU8maeEnSRTDPv3XRZoEuuUPI"}`.
 const BINDING: &str =
     "eyJhbGciOiJFUzM4NCIsInR5cCI6ImtiK2p3dCJ9.eyJhdWQiOiJ2IiwiaWF0IjoxMDAwLCJub25jZSI6Im4iLCJzZF9oYXNoIjoiM3RCOHpPSWdHc1ZYM3ZDRjRmVVU4bWFlRW5TUlREUHYzWFJab0V1dVVQSSJ9";
 
-// How far the token is presented, where all places may be shown.
-fn presented(
-    alloc: Global,
-    order: &str,
-    answer: Option<SignatureAnswer>,
-) -> Result<Result<Presentation, PresentError>, Fail> {
-    let said = read_unsigned_present(alloc, order.as_bytes()).map_err(|_| "no order")?;
-    let consent = Consent::new(|_: &Path| true);
-    let Some((token, _)) = PRESENTED.rsplit_once('~') else {
-        return Err("no disclosures".into());
+// What is sent behind the JWT of the issuer.
+fn sent(rt: &impl Abort, alloc: Global, parts: &Parts) -> String {
+    let disclosures = behind(rt, alloc, parts);
+    let binding = match &parts.binding {
+        Some(jwt) => jwt_text(rt, alloc, jwt),
+        None => String::new(alloc),
     };
-    let token = format!(in alloc; "{token}~")?;
-    let (text, steps) = (token.as_bytes(), &mut Steps::new());
-    Ok(present_unsigned(alloc, text, &said.ask, answer, &consent, 1000, steps))
+    joined(rt, alloc, &[disclosures.as_str(), binding.as_str()])
+}
+
+// What is to be signed, and what is sent with these bytes as its signature. The payload beside it
+// tells the key of the holder.
+fn to_sign(
+    rt: &impl Abort,
+    alloc: Global,
+    unsigned: UnsignedPresentation,
+    signature: &[u8],
+) -> String {
+    let payload = write(alloc, &unsigned.payload).expect(rt, "memory");
+    assert!(rt; payload.as_str().contains(r#""cnf":{"jwk":{"crv":"P-256""#));
+    let text = unsigned.binding.text(alloc).expect(rt, "memory");
+    expect_told(rt, text.as_str(), BINDING, "");
+    match unsigned.signed(alloc, signature) {
+        Ok(parts) => sent(rt, alloc, &parts),
+        Err(error) => why(rt, alloc, &error),
+    }
 }
 
 // What is told of it. A question has the algorithm, and the lengths of the signature and of the
-// text that this is over; of a presentation the disclosures are told.
-fn told(alloc: Global, order: &str, answer: Option<SignatureAnswer>) -> Result<TextBox, Fail> {
-    match presented(alloc, order, answer)? {
-        Ok(Presentation::AsksIssuer(question)) => {
-            let (alg, text) = (question.header.alg.as_str(), question.text.as_str());
-            let (count, length) = (question.signature.bytes().len(), text.len());
-            Ok(TextBox::from_string(format!(in alloc; "asks {alg} {count} {length}")?))
-        }
-        Ok(Presentation::ToSign(unsigned)) => Ok(unsigned.binding.text(alloc)?),
-        Ok(Presentation::Presented(parts)) => disclosures_of(alloc, &parts),
-        Err(error) => Ok(refusal_line(alloc, &error)?),
+// text that this is over.
+fn told(
+    rt: &impl Abort,
+    alloc: Global,
+    answer: Result<Presentation, PresentError>,
+    signature: &[u8],
+) -> String {
+    match answer {
+        Ok(Presentation::AsksIssuer(question)) => asked(rt, alloc, "asks", &question),
+        Ok(Presentation::ToSign(unsigned)) => to_sign(rt, alloc, unsigned, signature),
+        Ok(Presentation::Presented(parts)) => sent(rt, alloc, &parts),
+        Err(error) => why(rt, alloc, &error),
     }
 }
 
-// The disclosures of a presentation, each with a `~` behind it.
-fn disclosures_of(alloc: Global, parts: &Parts) -> Result<TextBox, Fail> {
-    let mut all = String::new(alloc);
-    for disclosure in parts.disclosures.elements() {
-        all.push_str(disclosure.as_str())?;
-        all.push_str("~")?;
-    }
-    Ok(TextBox::from_string(all))
+// How far the token is presented, where all places may be shown, and how deep the places are that
+// the rule is asked for.
+fn presented(
+    rt: &impl Abort,
+    alloc: Global,
+    order: &str,
+    answer: Option<SignatureAnswer>,
+) -> (Result<Presentation, PresentError>, u64) {
+    let said = read_unsigned_present(alloc, order.as_bytes()).expect(rt, "an order");
+    let (token, _) = PRESENTED.rsplit_once('~').expect(rt, "a token");
+    let token = joined(rt, alloc, &[token, "~"]);
+    let places = Cell::new(0);
+    let consent = Consent::new(|place: &Path| noted(&places, place));
+    let (text, steps) = (token.as_bytes(), &mut Steps::new());
+    let answer = present_unsigned(alloc, text, &said.ask, answer, &consent, 1000, steps);
+    (answer, places.get())
 }
 
-// The text of a JWT, where there is one.
-fn jwt_text(alloc: Global, jwt: Option<JwtParts>) -> Result<TextBox, Fail> {
-    let Some(jwt) = jwt else {
-        return Err("no key binding token".into());
-    };
-    let (protected, payload) = (jwt.protected.as_str(), jwt.payload.as_str());
-    let signature = jwt.signature.as_str();
-    Ok(TextBox::from_string(format!(in alloc; "{protected}.{payload}.{signature}")?))
-}
+// An order, what the caller says of the issuer's signature, the bytes of the holder's, how deep the
+// places are that the rule is asked for, and what is told. No rule is asked before the issuer's
+// signature is said to be good.
+const TOLD: [(&str, Option<SignatureAnswer>, &[u8], u64, &str, &[&str]); 9] = [
+    (ALONE, None, b"", 0, "asks ES256 64 1099", &[]),
+    (BOUND, None, b"", 0, "asks ES256 64 1099", &[]),
+    (OTHER_ALG, None, b"", 0, "refused 7 algRefused", &[]),
+    (BOUND, Some(Bad), b"", 0, "refused 10 badSignature", &[]),
+    (
+        ALONE,
+        Some(Unknown),
+        b"",
+        0,
+        "refused 9 issuerKeyUnknown",
+        &[],
+    ),
+    (
+        KEY_NAMED,
+        Some(Good),
+        b"",
+        0,
+        "refused 74 bindingKeyDiffers",
+        &[],
+    ),
+    (ALONE, Some(Good), b"", 1, GIVEN_NAME, &[]),
+    // no bytes are no signature
+    (BOUND, Some(Good), b"", 1, "fails", &[]),
+    (
+        BOUND,
+        Some(Good),
+        b"SIGNED",
+        1,
+        GIVEN_NAME,
+        &[BINDING, ".U0lHTkVE"],
+    ),
+];
 
 #[test]
-fn the_signature_of_the_issuer_is_asked_for_and_decides(rt: HostRuntime) -> Result<(), Fail> {
+fn a_caller_says_what_the_issuer_signed_and_signs_itself(rt: HostRuntime) {
     let alloc = rt.alloc();
-    let alone = format!(in alloc; "{GIVEN_NAME}~")?;
-    for (order, answer, wanted) in [
-        (ALONE, None, "asks ES256 64 1099"),
-        (BOUND, None, "asks ES256 64 1099"),
-        (OTHER_ALG, None, "refused 7 algRefused"),
-        (BOUND, Some(SignatureAnswer::Bad), "refused 10 badSignature"),
-        (
-            ALONE,
-            Some(SignatureAnswer::Unknown),
-            "refused 9 issuerKeyUnknown",
-        ),
-        (
-            KEY_NAMED,
-            Some(SignatureAnswer::Good),
-            "refused 74 bindingKeyDiffers",
-        ),
-        (ALONE, Some(SignatureAnswer::Good), alone.as_str()),
-        (BOUND, Some(SignatureAnswer::Good), BINDING),
-    ] {
-        let told = told(alloc, order, answer)?;
-        assert_eq!(rt; told.as_str(), wanted, "{order} {answer:?}");
+    for (order, answer, signature, places, line, rest) in TOLD {
+        let (presentation, asked) = presented(&rt, alloc, order, answer);
+        assert_eq!(rt; asked, places, "{line}");
+        let told = told(&rt, alloc, presentation, signature);
+        let rest = joined(&rt, alloc, rest);
+        expect_told(&rt, told.as_str(), line, rest.as_str());
     }
-    Ok(())
-}
-
-// What is to be signed for the order that asks for a key binding token.
-fn unsigned(alloc: Global) -> Result<UnsignedPresentation, Fail> {
-    match presented(alloc, BOUND, Some(SignatureAnswer::Good))? {
-        Ok(Presentation::ToSign(unsigned)) => Ok(unsigned),
-        _ => Err("nothing is to be signed".into()),
-    }
-}
-
-#[test]
-fn no_bytes_are_no_signature(rt: HostRuntime) -> Result<(), Fail> {
-    let alloc = rt.alloc();
-    let unsigned = unsigned(alloc)?;
-    assert_eq!(rt;
-        unsigned.signed(alloc, &[]).err(),
-        Some(PresentError::SignFailed)
-    );
-    Ok(())
-}
-
-// The payload beside it tells the key of the holder. The signature is the base64url text of its
-// bytes.
-#[test]
-fn a_signature_makes_the_presentation(rt: HostRuntime) -> Result<(), Fail> {
-    let alloc = rt.alloc();
-    let unsigned = unsigned(alloc)?;
-    let payload = write(alloc, &unsigned.payload)?;
-    assert!(rt; payload.as_str().contains(r#""cnf":{"jwk":{"crv":"P-256""#));
-    let parts = unsigned.signed(alloc, &[7; 6]).map_err(|_| "too long")?;
-    let alone = format!(in alloc; "{GIVEN_NAME}~")?;
-    assert_eq!(rt; disclosures_of(alloc, &parts)?.as_str(), alone.as_str());
-    let wanted = format!(in alloc; "{BINDING}.BwcHBwcH")?;
-    assert_eq!(rt; jwt_text(alloc, parts.binding)?.as_str(), wanted.as_str());
-    Ok(())
 }

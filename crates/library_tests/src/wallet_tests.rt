@@ -1,14 +1,15 @@
 // A wallet's rule, and what it sends.
-use crate::holder_tests::{TOKEN as BOTH, presented};
-use claim_tree::{Path, write};
-use compact_form::print;
+use crate::holder_tests::TOKEN as BOTH;
+use crate::recording::noted;
+use crate::tell::{expect_told, noticed};
+use claim_tree::Path;
 use digest_index::Steps;
-use sd_outside::{ByteBox, TextBox};
+use sd_outside::ByteBox;
 use selection_core::Consent;
 use std::alloc::Global;
-use std::test::Fail;
-use verifier_core::{read_policy, verify_payload};
-use wallet_core::{CredentialList, Picked, Query, WalletError, answer, read_query};
+use std::cell::Cell;
+use std::process::Abort;
+use wallet_core::{CredentialList, Picked, WalletError, answer, read_query};
 
 // A token that hides an address with its street.
 const WHOLE: &str =
@@ -17,86 +18,59 @@ const WHOLE: &str =
 const QUERY: &str =
     r#"{"keys":{"keys":[{"kty":"oct","k":"AQEBAQEBAQEBAQEBAQEBAQEBAQEBAQEBAQEBAQEBAQE"}]},"want":["/address/street"]}"#;
 
-fn held_of(alloc: Global, texts: &[&str]) -> Result<CredentialList, Fail> {
+fn held_of(rt: &impl Abort, alloc: Global, texts: &[&str]) -> CredentialList {
     let mut held = CredentialList::new(alloc);
     for text in texts {
         let mut bytes = ByteBox::new(alloc);
-        bytes.append(text.as_bytes())?;
-        held.push(bytes)?;
+        bytes.append(text.as_bytes()).expect(rt, "memory");
+        held.push(bytes).expect(rt, "memory");
     }
-    Ok(held)
+    held
 }
 
-// The credential that is picked, and how many disclosures are sent of it, where
-// places of at most so many steps are shown.
-fn picked(
-    alloc: Global,
-    most: usize,
-    held: &CredentialList,
-    query: &Query,
-    steps: &mut Steps,
-) -> Result<Option<(usize, usize)>, Fail> {
-    let consent = Consent::new(|place: &Path| place.len() <= most);
-    match answer(alloc, held, query, &consent, steps) {
-        Ok(Picked { index, parts }) => Ok(Some((index, parts.disclosures.len()))),
-        Err(WalletError::NoAnswer) => Ok(None),
-        Err(WalletError::Memory) => Err("no memory".into()),
-    }
+// The credential that is picked and how many disclosures are sent of it, or why nothing is.
+fn picked(rt: &impl Abort, alloc: Global, answer: &Result<Picked, WalletError>) -> String {
+    let found = match answer {
+        Ok(picked) => Ok((picked.index, picked.parts.disclosures.len())),
+        Err(error) => Err(*error),
+    };
+    format!(in alloc; "{found:?}").expect(rt, "memory")
 }
 
-// The same of a wallet of these credentials, and how many digests were looked up.
-fn told(alloc: Global, most: usize, texts: &[&str]) -> Result<(Option<(usize, usize)>, u64), Fail> {
-    let held = held_of(alloc, texts)?;
-    let said = read_query(alloc, QUERY.as_bytes()).map_err(|_| "no query")?;
+// What a wallet of these credentials answers that shows places of at most so many steps, how many
+// digests are looked up, and how deep the places are that the rule is asked for.
+fn told(rt: &impl Abort, alloc: Global, most: usize, texts: &[&str]) -> String {
+    let held = held_of(rt, alloc, texts);
+    let said = read_query(alloc, QUERY.as_bytes()).expect(rt, "a query");
+    let places = Cell::new(0);
+    let consent = Consent::new(|place: &Path| noted(&places, place) && place.len() <= most);
     let mut steps = Steps::new();
-    let picked = picked(alloc, most, &held, &said.query, &mut steps)?;
-    Ok((picked, steps.count()))
+    let answer = answer(alloc, &held, &said.query, &consent, &mut steps);
+    let picked = picked(rt, alloc, &answer);
+    noticed(
+        rt,
+        alloc,
+        picked.as_str(),
+        (steps.count(), places.get()),
+        "",
+    )
 }
 
 #[test]
-fn a_rule_is_asked_for_each_credential(rt: HostRuntime) -> Result<(), Fail> {
+fn a_rule_is_asked_for_each_credential(rt: HostRuntime) {
     for (most, texts, wanted) in [
-        (2, [BOTH].as_slice(), (Some((0, 2)), 4)),
-        (1, [BOTH].as_slice(), (None, 4)),
-        (1, [BOTH, WHOLE].as_slice(), (Some((1, 1)), 6)),
-        (2, [BOTH, WHOLE].as_slice(), (Some((1, 1)), 6)),
-        (1, [WHOLE, BOTH].as_slice(), (Some((0, 1)), 6)),
-        (0, [WHOLE, BOTH, "a.b.c"].as_slice(), (None, 6)),
+        (2, [BOTH].as_slice(), "Ok((0, 2)), 4, 12"),
+        (1, [BOTH].as_slice(), "Err(NoAnswer), 4, 12"),
+        (1, [BOTH, WHOLE].as_slice(), "Ok((1, 1)), 6, 121"),
+        (2, [BOTH, WHOLE].as_slice(), "Ok((1, 1)), 6, 121"),
+        (1, [WHOLE, BOTH].as_slice(), "Ok((0, 1)), 6, 112"),
+        (
+            0,
+            [WHOLE, BOTH, "a.b.c"].as_slice(),
+            "Err(NoAnswer), 6, 112",
+        ),
     ] {
-        let count = texts.len();
-        assert_eq!(rt; told(rt.alloc(), most, texts)?, wanted, "{most} of {count}");
+        let told = told(&rt, rt.alloc(), most, texts);
+        expect_told(&rt, told.as_str(), wanted, "");
     }
-    Ok(())
-}
-
-const POLICY: &str =
-    r#"{"keys":{"keys":[{"kty":"oct","k":"AQEBAQEBAQEBAQEBAQEBAQEBAQEBAQEBAQEBAQEBAQE"}]}}"#;
-
-// What a wallet sends of these credentials.
-fn sent(alloc: Global, texts: &[&str]) -> Result<TextBox, Fail> {
-    let held = held_of(alloc, texts)?;
-    let said = read_query(alloc, QUERY.as_bytes()).map_err(|_| "no query")?;
-    let consent = Consent::new(|_: &Path| true);
-    match answer(alloc, &held, &said.query, &consent, &mut Steps::new()) {
-        Ok(Picked { parts, .. }) => Ok(print(alloc, &parts)?),
-        Err(_) => Err("no answer".into()),
-    }
-}
-
-// The claims that a verifier finds in it.
-fn verified(alloc: Global, text: &str) -> Result<TextBox, Fail> {
-    let policy = read_policy(alloc, POLICY.as_bytes()).map_err(|_| "no policy")?;
-    let steps = &mut Steps::new();
-    let payload = verify_payload(alloc, text.as_bytes(), &policy, 0, steps);
-    Ok(write(alloc, &payload.map_err(|_| "refused")?)?)
-}
-
-#[test]
-fn what_a_wallet_sends_is_presented_again(rt: HostRuntime) -> Result<(), Fail> {
-    let token = sent(rt.alloc(), &[BOTH, WHOLE])?;
-    // A query has the members of a present order that are asked for here.
-    let again = presented(rt.alloc(), token.as_str(), QUERY)?;
-    let claims = verified(rt.alloc(), again.as_str())?;
-    assert_eq!(rt; claims.as_str(), r#"{"address":{"street":"S","zip":"1"}}"#);
-    Ok(())
 }
