@@ -109,11 +109,11 @@ else
     skip 'AddressSanitizer (the compiler has none)'
 fi
 if command -v tsc >/dev/null; then
-    cp "$here/test/types.ts" "$made/app/"
-    types() { (cd "$made/app" && tsc --noEmit --strict --module nodenext --target es2022 types.ts) && tsc --version; }
+    cp "$here/test/types.ts" "$made/app/types.mts"
+    types() { (cd "$made/app" && tsc --noEmit --strict --module nodenext --target es2022 types.mts) && tsc --version; }
     holds 'the types' types
     # a type that is wrong is found
-    sed 's/const ticket: string = /const ticket: number = /' "$here/test/types.ts" >"$made/app/types.ts"
+    sed 's/const ticket: string = /const ticket: number = /' "$here/test/types.ts" >"$made/app/types.mts"
     if types >/dev/null; then echo 'check.sh: FAILED: tsc takes a wrong type' >&2 && exit 1; fi
 else
     skip 'the types (no tsc)'

@@ -110,7 +110,8 @@ if command -v valgrind >/dev/null; then
             sed -n 's/.*"executable":"\([^"]*\)".*/\1/p' | tail -n 1)
         holds "valgrind: $name" valgrind --quiet --error-exitcode=9 --leak-check=full --show-leak-kinds=definite \
             --errors-for-leak-kinds=definite --main-stacksize=8388608 \
-            "$test" --skip each_letter --skip a_million --skip too_long --test-threads 2
+            "$test" --skip each_letter --skip a_million --skip too_long --skip of_no_form --skip any_length \
+            --test-threads 2
     done
 else
     skip 'valgrind (none)'
