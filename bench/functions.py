@@ -18,7 +18,7 @@ from machine import Skipped, instructions, need
 # What a function does, by words of its name; the first that fits counts.
 KINDS = (
     ("hash", r"sha2|sha256|sha512|hmac|compress|Sha256|Sha512|digest::core_api"),
-    ("base64", r"base64|b64|encode_config|decode_config|decode_helper|word_len"),
+    ("base64", r"base64|b64|encode_config|decode_config|decode_helper|word_len|^floor::main"),
     ("JSON", r"serde_json|json|claim_tree|write_text|write_members|Deserializer|Reader|visit_(seq|map)|utf8|itoa"),
     ("index", r"indexmap|hashbrown|digest_index|[Ss]ip|hash_one"),
     ("memory", r"malloc|free|realloc|calloc|memcpy|memmove|memset|_int_|alloc|drop_in_place|unlink_chunk|memcmp"),

@@ -15,7 +15,7 @@ import tempfile
 from pathlib import Path
 
 import workloads
-from machine import Skipped, beyond_start
+from machine import Skipped, instructions
 
 FILE = Path(__file__).resolve().parent / "guard.json"
 MOST = 0.03
@@ -25,13 +25,13 @@ GUARDED = ("verify small", "verify flat 4,096", "issue flat 1,000", "present fla
 
 def counted(program):
     """The instructions of the guarded workloads."""
-    counts = {}
+    counts, start = {}, instructions(program, [])
     with tempfile.TemporaryDirectory() as folder:
         for shape in {name.split(" ", 1)[1] for name in GUARDED}:
             files = workloads.Files(folder, shape, workloads.SHAPES[shape], program)
             for name in GUARDED:
                 if name.split(" ", 1)[1] == shape:
-                    counts[name] = beyond_start(program, files.words(name.split(" ", 1)[0]))
+                    counts[name] = instructions(program, files.words(name.split(" ", 1)[0])) - start
     return {name: counts[name] for name in GUARDED}
 
 

@@ -92,11 +92,6 @@ def instructions(program, words, source=None, profile=None):
     return int(found.group(1))
 
 
-def beyond_start(program, words, source=None):
-    """The instructions of a run, without those of a run that only says `usage`."""
-    return instructions(program, words, source) - instructions(program, [])
-
-
 def processor():
     """The name of the processor, how many cores there are, and whether it has SHA instructions."""
     try:

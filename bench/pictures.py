@@ -4,15 +4,15 @@ from xml.sax.saxutils import escape
 
 WIDTH, HEIGHT = 720, 420
 LEFT, RIGHT, TOP, BOTTOM = 70, 170, 40, 50
-COLOURS = ("#1b5e8c", "#c8501e", "#3c7d3c", "#7a4a8c", "#a88a1e", "#8a8a8a")
+COLORS = ("#1b5e8c", "#c8501e", "#3c7d3c", "#7a4a8c", "#a88a1e", "#8a8a8a")
 
 
 def text(x, y, words, anchor="middle", size=13):
     return f'<text x="{x:.1f}" y="{y:.1f}" text-anchor="{anchor}" font-size="{size}">{escape(words)}</text>'
 
 
-def line(x, y, to_x, to_y, colour="#cccccc", width=1):
-    return (f'<line x1="{x:.1f}" y1="{y:.1f}" x2="{to_x:.1f}" y2="{to_y:.1f}" stroke="{colour}" '
+def line(x, y, to_x, to_y, color="#cccccc", width=1):
+    return (f'<line x1="{x:.1f}" y1="{y:.1f}" x2="{to_x:.1f}" y2="{to_y:.1f}" stroke="{color}" '
             f'stroke-width="{width}"/>')
 
 
@@ -27,7 +27,7 @@ def legend(names):
     x = WIDTH - RIGHT + 14
     for number, name in enumerate(names):
         y = TOP + 20 + 20 * number
-        yield f'<rect x="{x}" y="{y - 10}" width="12" height="12" fill="{COLOURS[number % len(COLOURS)]}"/>'
+        yield f'<rect x="{x}" y="{y - 10}" width="12" height="12" fill="{COLORS[number % len(COLORS)]}"/>'
         yield text(x + 18, y, name, "start", 12)
 
 
@@ -61,8 +61,8 @@ def curves(title, across, up, series):
         parts += [line(at_x(x), TOP, at_x(x), HEIGHT - BOTTOM), text(at_x(x), HEIGHT - BOTTOM + 16, f"{x:,}", size=11)]
     for number, own in enumerate(series.values()):
         path = " ".join(f"{at_x(x):.1f},{at_y(y):.1f}" for x, y in own)
-        colour = COLOURS[number % len(COLOURS)]
-        parts.append(f'<polyline points="{path}" fill="none" stroke="{colour}" stroke-width="2"/>')
+        color = COLORS[number % len(COLORS)]
+        parts.append(f'<polyline points="{path}" fill="none" stroke="{color}" stroke-width="2"/>')
     return picture(title, parts + list(legend(series)))
 
 
@@ -82,8 +82,8 @@ def bars(title, up, groups):
         x = LEFT + room * (place + 0.15)
         for part, value in stack.items():
             y -= value * scale
-            colour = COLOURS[names.index(part) % len(COLOURS)]
+            color = COLORS[names.index(part) % len(COLORS)]
             parts.append(f'<rect x="{x:.1f}" y="{y:.1f}" width="{room * 0.7:.1f}" height="{value * scale:.1f}" '
-                         f'fill="{colour}"/>')
+                         f'fill="{color}"/>')
         parts.append(text(x + room * 0.35, HEIGHT - BOTTOM + 16, name, size=11))
     return picture(title, parts + (list(legend(names)) if len(names) > 1 else []))

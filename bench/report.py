@@ -176,7 +176,7 @@ def of_dask(report):
 
 
 def of_calls(report):
-    seconds = 0.05 if report.quick else 2.0
+    seconds = 0.01 if report.quick else 2.0
     figures, left = scale.python_calls(report.library, seconds)
     rows = [(name, f"{own['us']:.0f}", *(f"{own[count]:,.0f}" if count in own else "" for count in ("1", "2", "4")))
             for name, own in figures.items()]

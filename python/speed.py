@@ -74,9 +74,14 @@ THREADS = (1, 2, 4)
 FIGURES = {}
 
 
+def calls_for(seconds):
+    """How many calls are timed in a round: fewer if the rounds are short."""
+    return 1000 if seconds >= 1 else 20
+
+
 def tell(name, call, seconds, on=THREADS):
     rates = {str(threads): rate(call, seconds, threads) for threads in on}
-    FIGURES[name] = {"us": time_of(call), **rates}
+    FIGURES[name] = {"us": time_of(call, calls=calls_for(seconds)), **rates}
     told = ", ".join(f"{each:,.0f} a second on {threads}" for threads, each in rates.items())
     print(f"{name}: {told} threads, {FIGURES[name]['us']:.0f} us of the processor")
 
@@ -176,14 +181,14 @@ class Bound:
         self.open = sdjwt.Policy({"keys": keys, "algs": ["ES256"], "binding": binding})
 
 
-def tell_bound():
+def tell_bound(seconds):
     """What a nonce for each call costs."""
-    bound = Bound()
+    bound, calls = Bound(), calls_for(seconds)
     # by turns, since the machine may be faster at one time than at another
     times = [
         (
-            time_of(lambda: bound.kept.verify(bound.token), 1),
-            time_of(lambda: bound.open.verify(bound.token, nonce="4711"), 1),
+            time_of(lambda: bound.kept.verify(bound.token), 1, calls),
+            time_of(lambda: bound.open.verify(bound.token, nonce="4711"), 1, calls),
         )
         for _ in range(9)
     ]
@@ -206,7 +211,7 @@ def tell_public(shown, seconds):
     tell("ES256: signature alone, by cryptography", public.check, seconds)
     tell("ES256: Policy.verify, but for the signature", lambda: public.unchecked.verify(public.token), seconds)
     tell("HS256: Policy.verify beside a public key", lambda: public.mixed.verify(shown.encode()), seconds)
-    tell_bound()
+    tell_bound(seconds)
 
 
 def main():
