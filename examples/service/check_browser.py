@@ -190,7 +190,7 @@ def _expired(page: Page) -> None:
 def _fits(page: Page) -> None:
     """Nothing is wider than the page, however narrow it is, and each text is read on what is behind it."""
     page.get("document.querySelector('#tickets input').click()")
-    page.wait("document.getElementById('choice/over_18')")
+    page.wait("document.getElementById('choice/over_18') !== null")
     page.get("for (const details of document.querySelectorAll('details')) details.open = true")
     for width in (1280, 768, 360):
         for scheme in ("light", "dark"):

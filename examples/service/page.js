@@ -171,6 +171,7 @@ async function present(keys) {
   const { sign, at } = await request("/wallet/present", asked);
   const signature = await wallet.sign(keys, sign);
   find("presented").value = (await request("/wallet/present", { ...asked, at, signature })).presentation;
+  find("presented").scrollTop = 0;
   find("verdict").replaceChildren();
   find("seen").replaceChildren();
   return chosen.length;

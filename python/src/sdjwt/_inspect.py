@@ -15,6 +15,7 @@ from dataclasses import dataclass, field
 from time import time
 from typing import Any, NamedTuple, Optional
 
+from sdjwt._disclosed import step
 from sdjwt._errors import Refused, _explanations
 
 # The hashes of digests, by the names of `_sd_alg`.
@@ -220,7 +221,7 @@ class _Joiner:
         hides = isinstance(value.get("_sd"), list)
         for name, member in value.items():
             if not (name == "_sd" and hides or name == "_sd_alg" and not place):
-                yield self.node(member, name, f"{place}/{_step(name)}", depth)
+                yield self.node(member, name, f"{place}/{step(name)}", depth)
         for digest in value["_sd"] if hides else ():
             one = self._taken(digest, place, None)
             if one is None:
@@ -245,12 +246,8 @@ class _Joiner:
     def _taken(self, digest: Any, place: str, position: int | None) -> Disclosure | None:
         one = self._left.pop(digest, None) if isinstance(digest, str) else None
         if one is not None:
-            one.place = f"{place}/{_step(one.name or '') if position is None else position}"
+            one.place = f"{place}/{step(one.name or '') if position is None else position}"
         return one
-
-
-def _step(name: str) -> str:
-    return name.replace("~", "~0").replace("/", "~1")
 
 
 def signed(value: Any, numbers: dict[str, int], label: str | None = None, depth: int = 0) -> Node:
