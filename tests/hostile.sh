@@ -188,7 +188,8 @@ limited() {
 
 # The limit comes as the signal SIGXFSZ, which ends a program, unless its shell ignores it, as docs/FILES.md shows.
 "$program" present present.json issued.txt >answer
-ignoring=$(sed -n "s/^    \\((trap '' XFSZ; .*)\\)\$/\\1/p" "$here/../docs/FILES.md")
+ignoring=$(sed -n "s/^ *\\((trap '' XFSZ; .*)\\)\$/\\1/p" "$here/../docs/FILES.md")
+[ -n "$ignoring" ] || tell 'a limit on files: docs/FILES.md has no command that ignores the signal'
 PATH=$made:$PATH limited 4 unwritten "$ignoring"
 came=0
 (exec 2>log && (ulimit -f 1 && exec dd if=/dev/zero of=zero bs=9999 count=1) || exit) || came=$?
