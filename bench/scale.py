@@ -8,6 +8,7 @@
 
 SDJWT and TOOLS are the built programs, and LIBRARY is libsdjwt.so.
 """
+import ctypes
 import json
 import os
 import re
@@ -130,11 +131,19 @@ def of_ten(folder, library):
     (folder / "token").write_text(shown, encoding="utf-8")
 
 
-def c_calls(library, seconds=2.0, counts=WORKERS):
-    """Calls of sdjwt_policy_verify a second, by threads."""
-    compiler, library = need(os.environ.get("CC", "cc")), os.path.abspath(library)
+def proved_library(library):
+    """The whole path of a proved library. One of c/build.sh --look has checks at run time, and is many times slower."""
+    library = os.path.abspath(library)
     if not os.path.exists(library):
         raise Skipped(f"there is no {library}: sh c/build.sh makes it")
+    if not ctypes.CDLL(library).sdjwt_is_proved():
+        raise Skipped(f"{library} is not proved: sh c/build.sh makes one that is")
+    return library
+
+
+def c_calls(library, seconds=2.0, counts=WORKERS):
+    """Calls of sdjwt_policy_verify a second, by threads."""
+    compiler, library = need(os.environ.get("CC", "cc")), proved_library(library)
     with tempfile.TemporaryDirectory() as made:
         folder = Path(made)
         of_ten(folder, library)
@@ -153,9 +162,7 @@ def python_calls(library, seconds=2.0):
 
     If a library is missing, Debian's Python is asked for it too; what only that one has is marked by its version.
     """
-    library = os.path.abspath(library)
-    if not os.path.exists(library):
-        raise Skipped(f"there is no {library}: sh c/build.sh makes it")
+    library = proved_library(library)
     figures, skipped = {}, {"all"}
     surroundings = {**os.environ, "PYTHONPATH": str(TOP / "python/src"), "SDJWT_LIBRARY": library}
     for python in dict.fromkeys([sys.executable, "/usr/bin/python3"]):
@@ -173,11 +180,21 @@ def python_calls(library, seconds=2.0):
     return figures, sorted(skipped - {"all"})
 
 
+def number(word):
+    """The number that a word is, or else the word, such as a path."""
+    for kind in (int, float):
+        try:
+            return kind(word)
+        except ValueError:
+            continue
+    return word
+
+
 def main():
     names = {"feeds": feeds, "dask": dask, "c": c_calls, "python": python_calls}
     if len(sys.argv) < 3 or sys.argv[1] not in names:
         sys.exit(__doc__.strip())
-    words = [float(word) if "." in word else int(word) if word.isdecimal() else word for word in sys.argv[2:]]
+    words = [number(word) for word in sys.argv[2:]]
     try:
         print(json.dumps(names[sys.argv[1]](*words), indent=1))
     except Skipped as word:

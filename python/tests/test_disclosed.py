@@ -17,7 +17,7 @@ ORDER = {
         "iss": "tickets",
         "name": "Ada",
         "seats": ["A1", "A2", "A3", "A2"],
-        "home": {"city": "Rome", "lines": ["one", "two"]},
+        "house": {"city": "Rome", "lines": ["one", "two"]},
         "a/b~c": 1,
         "": {"": True},
     },
@@ -26,14 +26,14 @@ ORDER = {
         "/seats/0",
         "/seats/1",
         "/seats/3",
-        "/home",
-        "/home/city",
-        "/home/lines/1",
+        "/house",
+        "/house/city",
+        "/house/lines/1",
         "/a~1b~0c",
         "/",
         "//",
     ],
-    "decoys": [{"at": "", "count": 2}, {"at": "/seats", "count": 3}, {"at": "/home", "count": 1}],
+    "decoys": [{"at": "", "count": 2}, {"at": "/seats", "count": 3}, {"at": "/house", "count": 1}],
     "key": KEY,
 }
 each = pytest.mark.parametrize
@@ -75,13 +75,13 @@ def test_the_places_are_in_the_order_of_the_disclosures():
         (("/name",), ("/name",)),
         (("/seats",), ()),
         (("/seats/2",), ()),
-        (("/home/city",), ("/home", "/home/city")),
-        (("/home",), ("/home",)),
+        (("/house/city",), ("/house", "/house/city")),
+        (("/house",), ("/house",)),
         # what is kept back of an array leaves no gap in the claims
         (("/seats/3",), ("/seats/1",)),
         (("/seats/1", "/seats/3"), ("/seats/0", "/seats/2")),
         (("/seats/0",), ("/seats/0",)),
-        (("/home/lines/1",), ("/home", "/home/lines/1")),
+        (("/house/lines/1",), ("/house", "/house/lines/1")),
         (("//", "/a~1b~0c"), ("/", "//", "/a~1b~0c")),
     ],
 )
@@ -92,9 +92,9 @@ def test_what_is_kept_back_is_not_disclosed(want, due):
 
 @each("hash_name", ["sha-256", "sha-384", "sha-512"])
 def test_each_hash_and_each_form(hash_name):
-    shown = present(sdjwt.issue({**ORDER, "sd_alg": hash_name}), "/home/city", "/seats/3")
+    shown = present(sdjwt.issue({**ORDER, "sd_alg": hash_name}), "/house/city", "/seats/3")
     for token in (shown, shown.encode(), sdjwt.convert("flat", shown), sdjwt.convert("general", shown)):
-        assert set(POLICY.check(token).disclosed) == {"/home", "/home/city", "/seats/1"}
+        assert set(POLICY.check(token).disclosed) == {"/house", "/house/city", "/seats/1"}
         assert asyncio.run(POLICY.check_async(token)) == POLICY.check(token)
 
 
@@ -157,17 +157,17 @@ def test_what_was_ordered_and_wanted_is_what_is_disclosed():
 
 
 def test_claims_that_do_not_follow_are_never_told():
-    token = present(sdjwt.issue(ORDER), "/home/city", "/seats/1")
+    token = present(sdjwt.issue(ORDER), "/house/city", "/seats/1")
     inside, claims = sdjwt.show(token), POLICY.verify(token)
-    assert set(places_of(inside, claims)) == {"/home", "/home/city", "/seats/0"}
+    assert set(places_of(inside, claims)) == {"/house", "/house/city", "/seats/0"}
     others = [
         {**claims, "more": 1},
         {**claims, "iss": "another"},
         {**claims, "seats": ["A2"]},
         {**claims, "seats": ["A2", "A3", "A1"]},
-        {**claims, "home": {}},
-        {name: value for name, value in claims.items() if name != "home"},
-        {**claims, "home": []},
+        {**claims, "house": {}},
+        {name: value for name, value in claims.items() if name != "house"},
+        {**claims, "house": []},
     ]
     for other in others:
         with pytest.raises(AssertionError, match="do not follow"):

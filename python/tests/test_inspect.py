@@ -358,7 +358,7 @@ BROKEN = {
     "no base64": "A",
     "no JSON": "AAAA",
     "a number": "MQ",
-    "a list": "W10",
+    "a list": encoded(b"[]"),
     "deep": encoded(b"[" * 5000 + b"]" * 5000),
     "deep objects": encoded(b'{"a":' * 300 + b"1" + b"}" * 300),
     "a fraction": encoded(b'{"a": 12.50, "b": 1e400, "c": NaN}'),
