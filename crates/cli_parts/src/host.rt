@@ -1,11 +1,14 @@
 // What a program takes from its host before it runs a command, and how it ends.
-ghost use Rattle.std.specs.Prelude.{◌≡◌, ◌≢◌, ◌≤◌, IfErr};
+ghost use Rattle.std.specs.Prelude.{◌≡◌, ◌≢◌, ◌≤◌, ◌/◌, drop, IfOk, IfErr};
+ghost use Rattle.std.specs.Time.{system_time_nanos};
+ghost use Rattle.std.specs.Vec.Iter.{into_iter_items};
 ghost use Rattle.cli_parts.specs.Endings.{EndsWith, ending_row};
 ghost use Rattle.cli_parts.specs.Lines.{line};
 ghost use Rattle.cli_parts.specs.Outside.{Tells, stream};
 
 use crate::tell;
-use sd_outside::{Sink, Status};
+use sd_outside::{NoMemory, Sink, Status};
+use std::alloc::Global;
 use std::process::ExitCode;
 use std::rt::{Clock, Env};
 use std::time::{SystemTime, UNIX_EPOCH};
@@ -38,21 +41,30 @@ impl Ending {
     }
 }
 
-/// The words behind the program's name. What they are is the host's to say.
-// Each is pushed, since `collect` first asks for room for all, and passes over a refusal.
+/// The words behind the program's name, which is the first of what the host tells.
 pub fn words(rt: &(impl Env + AllocGlobal)) -> Result<Vec<String>, Ending>
     ensures cause { IfErr result (λ ending. ending ≢ Ending.Clock) }
 {
-    let args = match env::args(rt) {
-        Ok(args) => args,
-        Err(fault) if fault.kind() == io::ErrorKind::InvalidData => return Err(Ending::Words),
-        Err(_) => return Err(Ending::Memory),
-    };
-    let mut words = Vec::new(rt.alloc());
-    for word in args.skip(1) {
-        if words.push(word).is_err() {
-            return Err(Ending::Memory);
-        }
+    match env::args(rt) {
+        Ok(args) => match behind_first(rt.alloc(), args) {
+            Ok(words) => Ok(words),
+            Err(NoMemory) => Err(Ending::Memory),
+        },
+        Err(fault) if fault.kind() == io::ErrorKind::InvalidData => Err(Ending::Words),
+        Err(_) => Err(Ending::Memory),
+    }
+}
+
+// All words but the first, as they are.
+// Each is pushed, since `collect` first asks for room for all, and passes over a refusal.
+fn behind_first(alloc: Global, args: env::Args) -> Result<Vec<String>, NoMemory>
+    ensures { IfOk result (λ words. words.items ≡ drop 1 (into_iter_items args)) }
+{
+    let mut rest = args;
+    let _name = rest.next();
+    let mut words = Vec::new(alloc);
+    for word in rest {
+        words.push(word)?;
     }
     Ok(words)
 }
@@ -63,13 +75,17 @@ pub fn seconds(rt: &impl Clock) -> Result<u64, Ending>
     ensures cause { IfErr result (λ ending. ending ≡ Ending.Clock) }
 {
     match SystemTime::now(rt) {
-        Ok(now) => Ok(
-            now.duration_since(UNIX_EPOCH)
-                .map_or(0, |time| time.as_secs()),
-        ),
+        Ok(now) => Ok(whole_seconds(now)),
         Err(fault) if fault.kind() == io::ErrorKind::InvalidData => Ok(0),
         Err(_) => Err(Ending::Clock),
     }
+}
+
+fn whole_seconds(now: SystemTime) -> u64
+    ensures { result ≡ system_time_nanos now / 1_000_000_000 }
+{
+    now.duration_since(UNIX_EPOCH)
+        .map_or(0, |time| time.as_secs())
 }
 
 /// The exit status of the program. Where it ran no command, `err` is told why.

@@ -1,3 +1,4 @@
 mod Files
 pub mod Lists
 pub mod Membership
+mod Writes

@@ -1,5 +1,5 @@
 // The files of the host.
-ghost use Rattle.std.specs.Prelude.{◌≡◌, ◌≤◌, None, length, IfOk};
+ghost use Rattle.std.specs.Prelude.{◌≡◌, ◌≤◌, None, length, take, IfOk, IfSome};
 
 use crate::{ByteBox, Cabinet, FetchError, TextBox};
 use std::alloc::Global;
@@ -36,7 +36,9 @@ const BLOCK: usize = 8_192;
 // At most `most` bytes of a file. Each turn but the last takes a byte or more. The file is not
 // asked for its size, since the memory grows by doubling.
 fn read_front<F: Read>(alloc: Global, file: &mut F, most: usize) -> Result<ByteBox, FetchError>
-    ensures { IfOk result (λ bytes. length bytes ≤ most) }
+    ensures content { IfOk result
+        (λ bytes. IfSome (F.remaining file.old) (λ rest. bytes ≡ take most rest)) }
+    ensures within { IfOk result (λ bytes. length bytes ≤ most) }
 {
     let mut bytes = ByteBox::new(alloc);
     let mut block = [0u8; BLOCK];

@@ -1,10 +1,10 @@
 // An output of the host, such as its standard output.
-ghost use Rattle.std.specs.Prelude.{◌≡◌, None};
+ghost use Rattle.std.specs.Prelude.{◌≡◌};
 
 use crate::{Failed, Sink};
 use std::io::Write;
 
-/// A stream of the host, as standard output. It tells no content.
+/// A stream of the host, as standard output. It tells what it has written if the stream tells it.
 #[derive(Drop)]
 pub struct HostSink<W: Write> {
     stream: W,
@@ -14,14 +14,15 @@ pub struct HostSink<W: Write> {
 impl<W: Write> HostSink<W> {
     /// The stream, with no fault yet. It takes no memory.
     pub fn new(stream: W) -> HostSink<W>
-        ensures { result.faults ≡ 0 }
+        ensures stream { result.stream ≡ stream }
+        ensures faults { result.faults ≡ 0 }
     {
         HostSink { stream, faults: 0 }
     }
 }
 
 impl<W: Write> Sink for HostSink<W> {
-    ghost written = { λ _. None };
+    ghost written = { λ s. W.contents s.stream };
 
     ghost faults = { λ s. s.faults };
 

@@ -1,10 +1,10 @@
 // An input of the host, such as its standard input.
-ghost use Rattle.std.specs.Prelude.{◌≡◌, None};
+ghost use Rattle.std.specs.Prelude.{◌≡◌};
 
 use crate::{Failed, Source};
 use std::io::Read;
 
-/// A stream of the host, as standard input. It tells no content.
+/// A stream of the host, as standard input. It tells what is left if the stream tells it.
 #[derive(Drop)]
 pub struct HostSource<R: Read> {
     stream: R,
@@ -15,6 +15,7 @@ pub struct HostSource<R: Read> {
 impl<R: Read> HostSource<R> {
     /// The stream, of which nothing was taken, with no fault yet. It takes no memory.
     pub fn new(stream: R) -> HostSource<R>
+        ensures stream { result.stream ≡ stream }
         ensures taken { result.taken ≡ 0 }
         ensures faults { result.faults ≡ 0 }
     {
@@ -27,7 +28,7 @@ impl<R: Read> HostSource<R> {
 }
 
 impl<R: Read> Source for HostSource<R> {
-    ghost left = { λ _. None };
+    ghost left = { λ s. R.remaining s.stream };
 
     ghost taken = { λ s. s.taken };
 

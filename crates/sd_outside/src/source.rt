@@ -1,6 +1,6 @@
 // Where the text of a feed comes from.
 ghost use Rattle.std.specs.Prelude.{◌≡◌, ◌+◌, ◌<◌, ◌≤◌, ◌^◌, List, ℕ, Option, length, take, IfOk, OnErr};
-ghost use Rattle.std.specs.Io.KnownBytes.{Consumes, IsAtEnd};
+ghost use Rattle.std.specs.Io.KnownBytes.{Consumes, IsAtEnd, Keeps};
 ghost use Rattle.sd_outside.specs.Causes.{Rose};
 
 use crate::Failed;
@@ -34,7 +34,7 @@ pub trait Source {
 
         // a failure has its cause, and gives nothing
         ensures failed { OnErr result (Rose (faults self.old) (faults self.new)) }
-        ensures same_left { OnErr result (left self.new ≡ left self.old) }
+        ensures same_left { OnErr result (Keeps (left self.old) (left self.new)) }
         ensures same_taken { OnErr result (taken self.new ≡ taken self.old) }
         ensures later { faults self.old ≤ faults self.new };
 }
