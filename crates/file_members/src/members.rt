@@ -1,11 +1,12 @@
 // The members of the files that a command reads, one function for each form.
-ghost use Rattle.std.specs.Prelude.{◌≡◌, ◌≤◌, [], IfOk, IfErr};
+ghost use Rattle.std.specs.Prelude.{◌≡◌, ◌≢◌, ◌≤◌, [], IfOk, IfErr};
 ghost use Rattle.sd_outside.specs.Limits.{json_depth_max};
 ghost use Rattle.claim_tree.specs.Tree.{object, IsOrdered, depth as depth_of};
 ghost use Rattle.claim_tree.specs.TreeValues.{IsText, IsTexts, IsWholeUpTo, IsListOf, IsPointer, MaySay, SaysOr};
 ghost use Rattle.file_members.specs.FileForms as spec;
 ghost use Rattle.file_members.specs.FileForms.{HasMembers, HasNoMembers, optional, found};
 ghost use Rattle.file_members.specs.FileRefusals.{IsMemberRefused};
+ghost use Rattle.file_members.specs.declared.file_fault.FileFault.TheVariants.{Memory};
 
 use crate::{Field, FileFault};
 use claim_tree::{PathList, Tree, TreeMap, pointers_of, read, texts_of, whole_up_to};
@@ -101,6 +102,7 @@ pub fn whole_member(members: &TreeMap, field: Field, most: u32) -> Result<Option
     ensures ok { IfOk result (MaySay (IsWholeUpTo most) (found members.now field)) }
     ensures refused { IfErr result
         (IsMemberRefused (optional field (IsWholeUpTo most)) members.now) }
+    ensures no_memory { IfErr result (λ fault. fault ≢ Memory) }
 {
     let Some(tree) = members.get(field.word()) else {
         return Ok(None);

@@ -1,5 +1,5 @@
 -- For private functions: hashes that are begun once for a key.
-use Rattle.std.specs.Prelude.{◌≡◌, ℕ, List, Option, Some, None, ⊤}
+use Rattle.std.specs.Prelude.{ℕ, List, Option, Some, None, ⊤}
 use Rattle.sha2.specs.Hashers.{Holds256}
 use Rattle.hmac_sign.specs.Hmac.{xored}
 use Rattle.hmac_sign.specs.declared.alg.Alg.{Alg}
@@ -10,7 +10,9 @@ pub record IsBegun (begun : Begun) (block : List ℕ) : Type 0 where
   pub inner : Holds256 begun.inner (xored block 0x36)
   pub outer : Holds256 begun.outer (xored block 0x5c)
 
--- where hashes are begun, the key is for HS256, and they are those of its block
+-- hashes are begun for each key for HS256, behind its block, and for no other
 abbrev pub AreBegun : Option Begun → Alg → List ℕ → Type 0
-AreBegun None alg block = ⊤
-AreBegun (Some begun) alg block = (alg ≡ Alg.Hs256) × IsBegun begun block
+AreBegun (Some begun) Alg.Hs256 block = IsBegun begun block
+AreBegun None Alg.Hs384 block = ⊤
+AreBegun None Alg.Hs512 block = ⊤
+AreBegun begun alg block = ⊥

@@ -62,6 +62,7 @@ pub fn mark_counted(alloc: Global, tree: Tree, paths: PathList) -> Result<(Marke
 pub fn different_paths(alloc: Global, paths: &PathList) -> Result<PathList, NoMemory>
     ensures same { IfOk result
         (λ different. (path : Steps) → is_among different path ≡ is_among paths.now path) }
+    ensures sorted { IfOk result AreSorted }
     ensures count { IfOk result
         (λ different. length different ≡ distinct_count same_path paths.now) }
 {

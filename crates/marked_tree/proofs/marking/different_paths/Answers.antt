@@ -1,10 +1,11 @@
-use Rattle.std.proofs.Common.{List, length, map, ap, ◌∙◌, Bor, rules}
+use Rattle.std.proofs.Common.{List, length, map, ap, sym, subst, ◌∙◌, Bor, rules}
 use Rattle.std.specs.List.Sorted.{IsPermutation}
 use Rattle.std.proofs.lemmas.Fn.{dedup_same}
 use Rattle.std.proofs.lemmas.List.Sorted.{ranks_by, answers_always}
 use Rattle.std.proofs.lemmas.Result.{IfOk-weaker}
 use Rattle.std.specs.Set.{distinct_count}
 use Rattle.marked_tree.specs.Paths.{Path, same_path, is_among}
+use Rattle.marked_tree.specs.Rests.{AreSorted}
 use Rattle.marked_tree.proofs.DifferentPaths.{IsEachOnce, each_shown, same_shown, lower_shown}
 use Rattle.marked_tree.proofs.PathOrder.{paths_total}
 use Rattle.marked_tree.proofs.marking.different_paths.Goals as goal
@@ -23,6 +24,12 @@ pub returns-clause-same : goal.returns-clause-same
 returns-clause-same c =
     IfOk-weaker c.copies_of.result _ _
     (λ copies is path. ap (λ (ps : List Path). is_among ps path) (is ∙ ap (map path_of) c.as_slice.ensures.value) ∙ ((once c).same path ∙ ap (λ (ps : List Path). is_among ps path) c.in_ok-lent.ensures))
+    c.copies_of.ensures
+
+pub returns-clause-sorted : goal.returns-clause-sorted
+returns-clause-sorted c =
+    IfOk-weaker c.copies_of.result _ _
+    (λ copies is. subst AreSorted (sym (is ∙ ap (map path_of) c.as_slice.ensures.value)) (once c).sorted)
     c.copies_of.ensures
 
 pub returns-clause-count : goal.returns-clause-count
