@@ -23,7 +23,7 @@ pub enum HashAlg {
 }
 
 impl HashAlg {
-    /// Its name.
+    /// Returns the name of the algorithm.
     pub fn name(self) -> &'static str
         ensures { result.now ≡ hash_name self }
     {
@@ -35,7 +35,7 @@ impl HashAlg {
     }
 }
 
-/// The algorithm of a name.
+/// Returns the algorithm with this name, if it is known.
 pub fn hash_named(name: &str) -> Option<HashAlg>
     ensures named { IfSome result (λ alg. name.now ≡ hash_name alg) }
     ensures other { IfNone result ((alg : HashAlg) → name.now ≢ hash_name alg) }
@@ -56,8 +56,9 @@ fn hash_of_name(name: &Tree) -> Option<HashAlg>
     hash_named(name.as_text()?.as_str())
 }
 
-/// The algorithm of a payload's digests, RFC 9901 section 4.1.1: that of its `_sd_alg`, or SHA-256
-/// where it has none. `None` where `_sd_alg` names no algorithm that is known, or is no text.
+/// Returns the algorithm of a payload's digests, RFC 9901 section 4.1.1: the one that `_sd_alg`
+/// names, or SHA-256 if there is no `_sd_alg`. Returns `None` if `_sd_alg` is not a string or does
+/// not name a known algorithm.
 pub fn payload_hash(payload: &Tree) -> Option<HashAlg>
     ensures { result ≡ payload_hash_by (tree_of payload.now) }
 {
@@ -67,8 +68,8 @@ pub fn payload_hash(payload: &Tree) -> Option<HashAlg>
     }
 }
 
-/// The digest of a disclosure's text, or of any other: the base64url text of
-/// the hash of its bytes, section 4.2.3.
+/// Returns the digest of a disclosure or of any other string: the base64url encoding of the hash of
+/// its bytes, RFC 9901 section 4.2.3.
 pub fn digest(alloc: Global, alg: HashAlg, text: &str) -> Result<TextBox, NoMemory>
     ensures { IfOk result (λ digest. digest ≡ digest_of alg text.now) }
 {

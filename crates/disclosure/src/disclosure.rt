@@ -16,20 +16,20 @@ use claim_tree::{JsonReader, ListTail, TailOrTree, Tree, copy, write_list};
 use sd_outside::{NoMemory, TextBox};
 use std::alloc::Global;
 
-/// A disclosure: its text, and what the list in it holds.
+/// A disclosure: its base64url string, and the elements of the array that it encodes.
 #[derive(Debug, Drop)]
 pub struct Disclosure {
-    /// The base64url text.
+    /// The base64url string.
     pub text: TextBox,
     /// Any JSON value.
     pub salt: Tree,
-    /// The name of the member, or nothing where it is an element.
+    /// The name of the member, or `None` for an element of an array.
     pub name: Option<TextBox>,
     pub value: Tree,
 }
 
 impl Disclosure {
-    /// The digest of its text.
+    /// Returns the digest of the base64url string.
     pub fn digest(&self, alloc: Global, alg: HashAlg) -> Result<TextBox, NoMemory>
         ensures { IfOk result (λ digest. digest ≡ digest_of alg self.now.text) }
     {
@@ -37,26 +37,26 @@ impl Disclosure {
     }
 }
 
-/// What the list in a disclosure holds: all of it but its text.
+/// The elements of the array in a disclosure: the salt, the name and the value.
 #[derive(Debug, Drop)]
 pub struct DisclosureParts {
     /// Any JSON value.
     pub salt: Tree,
-    /// The name of the member, or nothing where it is an element.
+    /// The name of the member, or `None` for an element of an array.
     pub name: Option<TextBox>,
     pub value: Tree,
 }
 
-/// What a disclosure gives: all that the list in it holds but the salt.
+/// The claim in a disclosure: the name and the value, without the salt.
 #[derive(Debug, Drop)]
 pub struct Disclosed {
-    /// The name of the member, or nothing where it is an element.
+    /// The name of the member, or `None` for an element of an array.
     pub name: Option<TextBox>,
     pub value: Tree,
 }
 
-/// What a disclosure holds whose JSON is this tree (RFC 9901 section 4.2): the salt, the name and
-/// the value, which are moved out of it.
+/// The elements of a disclosure whose JSON is this tree (RFC 9901 section 4.2): the salt, the name
+/// and the value. They are moved out of the tree.
 pub fn parts_of(tree: Tree) -> Option<DisclosureParts>
     ensures parts { IfSome result
         (λ d. tree_of tree ≡ array_of (tree_of d.salt) d.name (tree_of d.value)) }
@@ -110,7 +110,7 @@ fn given_by(tail: ListTail) -> Option<Disclosed>
 }
 
 /// What a disclosure gives whose JSON reads to this, which is moved out of it.
-/// None where it is no disclosure.
+/// `None` if it is not a disclosure.
 pub fn disclosed_by(found: TailOrTree) -> Option<Disclosed>
     requires depth { depth (kept_tree found) ≤ json_depth_max }
     ensures given { IfSome result
@@ -129,7 +129,7 @@ pub fn disclosed_by(found: TailOrTree) -> Option<Disclosed>
     }
 }
 
-/// What reads disclosures. One that is kept reads many of them in the same memory.
+/// A reader of disclosures. A caller that keeps it reads many of them in the same memory.
 #[derive(Drop)]
 pub struct DisclosureReader {
     /// Reads their JSON, and may be lent to what reads other texts.
@@ -153,7 +153,7 @@ fn decode_to(room: &mut Vec<u8>, text: &str) -> Result<usize, DisclosureError>
 }
 
 impl DisclosureReader {
-    /// A reader that has read nothing yet.
+    /// Returns a new reader.
     pub fn new(alloc: Global) -> DisclosureReader {
         DisclosureReader {
             json: JsonReader::new(alloc),
@@ -161,8 +161,8 @@ impl DisclosureReader {
         }
     }
 
-    /// Reads what a disclosure gives. That is faster than to read all that it
-    /// holds: no text is copied but those that it gives.
+    /// Reads the name and the value of a disclosure. This is faster than reading all elements,
+    /// because it copies only the strings that it returns.
     pub fn read_disclosed(
         &mut self,
         alloc: Global,
@@ -180,8 +180,8 @@ impl DisclosureReader {
     }
 }
 
-/// Reads a disclosure. Whole numbers alone are taken, as everywhere. A [`DisclosureReader`] reads
-/// what many of them give in less time.
+/// Reads a disclosure. All numbers have to be whole numbers. A [`DisclosureReader`] is faster if
+/// only the names and values of many disclosures are needed.
 pub fn read_disclosure(alloc: Global, text: &str) -> Result<Disclosure, DisclosureError>
     ensures text { IfOk result (λ d. d.text ≡ text.now) }
     ensures ok { IfOk result
@@ -207,7 +207,7 @@ pub fn read_disclosure(alloc: Global, text: &str) -> Result<Disclosure, Disclosu
     })
 }
 
-/// The text of the disclosure of a salt, a name and a value, whose JSON is compact.
+/// Returns the base64url string of the disclosure of a salt, a name and a value, with compact JSON.
 pub fn make_text(
     alloc: Global,
     salt: &str,
@@ -236,7 +236,8 @@ fn copy_name(alloc: Global, name: Option<&str>) -> Result<Option<TextBox>, NoMem
     }
 }
 
-/// The disclosure of a salt, a name and a value, whose JSON is compact. It has copies of them.
+/// Returns the disclosure of a salt, a name and a value, with compact JSON. It holds
+/// copies of them.
 pub fn make(
     alloc: Global,
     salt: &str,

@@ -3,18 +3,18 @@ use b64url_text::NotBase64;
 use claim_tree::ReadError;
 use sd_outside::NoMemory;
 
-/// Why a text is no disclosure, in the order in which it is judged.
+/// The reasons why a string is not a disclosure, in the order in which they are checked.
 #[derive(Clone, Copy, Debug, PartialEq, Eq)]
 pub enum DisclosureError {
-    /// There was no memory for the disclosure.
+    /// Memory ran out.
     Memory,
-    /// The text is the base64url text of no bytes.
+    /// The string is not the base64url encoding of any bytes.
     NotBase64,
-    /// The bytes are no JSON text.
+    /// The bytes are not JSON.
     NotJson,
-    /// A number in the JSON is not whole.
+    /// A number in the JSON is not a whole number.
     NotWhole,
-    /// The JSON is no list of two, and none of three whose second is a text.
+    /// The JSON is not an array of two elements, or of three with a string as the second.
     NotDisclosure,
 }
 

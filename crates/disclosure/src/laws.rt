@@ -1,4 +1,4 @@
-//! What the definitions say together. Each law holds for every value.
+//! Laws about the definitions. Each law holds for every value.
 ghost use Rattle.std.specs.Prelude.{◌≡◌, ◌≢◌, ℕ, List, Option};
 ghost use Rattle.claim_tree.specs.Tree.{Tree};
 ghost use Rattle.disclosure.specs.Disclosure.{IsDisclosure};

@@ -1,8 +1,8 @@
 //! Disclosures and their digests, RFC 9901 section 4.2.
 //!
-//! A [`Disclosure`] is the base64url text of a JSON list: the salt, the name of
-//! a member, its value. The name is left out where an element of an array is
-//! disclosed. Its digest is taken over the text as it stands.
+//! A [`Disclosure`] is the base64url encoding of a JSON array: the salt, the name of a member, and
+//! its value. The disclosure of an element of an array has no name. The digest is the hash of the
+//! base64url string, byte for byte.
 #![tactic(auto)]
 
 mod digests;

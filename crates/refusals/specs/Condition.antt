@@ -1,5 +1,5 @@
--- The conditions of a verifier, in the order in which they are judged: their
--- numbers and their printed names.
+-- The conditions of a verifier, in the order in which they are judged, with
+-- their numbers and printed names.
 use Rattle.std.specs.Prelude.{ℕ, List, codes}
 use Rattle.refusals.specs.declared.condition.Condition.{Condition}
 

@@ -9,19 +9,19 @@ use Rattle.refusals.specs.Condition.{number_of}
 abbrev pub fault_number : Fault → ℕ
 fault_number fault = fault.number
 
--- the condition fails at this place
+-- the fault of a condition at this place
 abbrev pub fault_at : Condition → Place → Fault
 fault_at condition place =
     record { number = number_of condition; place = place; of_condition = (condition, refl) }
 
--- it names no place
+-- the fault of a condition without a place
 abbrev pub unplaced : Condition → Fault
 unplaced condition = fault_at condition Nowhere
 
--- it fails at a number
+-- the fault of a condition at a position, counted from 0
 abbrev pub placed : Condition → ℕ → Fault
 placed condition i = fault_at condition (At i)
 
--- the condition that the fault names: by its type a fault has one
+-- the condition that the fault names; every fault has one, by its type
 abbrev pub failed_of : Fault → Condition
 failed_of fault = fault.of_condition.0

@@ -1,4 +1,4 @@
--- For the prover, which wants it of the fault: at most one condition has a number.
+-- For the prover, which needs it for the fault: at most one condition has a number.
 use Rattle.std.specs.Prelude.{◌≡◌, ℕ, ◌==◌, List, [], ◌∷◌, find, Option, Some, refl}
 use Rattle.std.proofs.Common.{ap, sym, ◌∙◌}
 use mathlib.Core.HLevel.{Σ_prop_path}
@@ -48,7 +48,7 @@ conditions =
     ∷ Condition.BindingTime
     ∷ []
 
--- the condition of a number, where there is one
+-- the condition with this number, if there is one
 abbrev pub condition_of : ℕ → Option Condition
 condition_of number = find (λ condition. number_of condition == number) conditions
 
@@ -93,7 +93,7 @@ numbered Condition.AudienceDiffers = refl
 numbered Condition.HashDiffers = refl
 numbered Condition.BindingTime = refl
 
--- two conditions of one number are one
+-- two conditions with the same number are equal
 pub one_condition : (a b : Condition) → number_of a ≡ number_of b → a ≡ b
 one_condition a b same =
     let both : Some a ≡ Some b = sym (numbered a) ∙ (ap condition_of same ∙ numbered b) in cc both

@@ -1,4 +1,4 @@
--- The line that tells of a refusal.
+-- The line that reports a refusal.
 use Rattle.std.specs.Prelude.{ℕ, List, [], ◌++◌, Option, None, Some, codes}
 use Rattle.std.specs.Fmt.{decimal}
 use Rattle.refusals.specs.declared.fault.Fault.{Fault}
@@ -10,7 +10,7 @@ use Rattle.refusals.specs.Faults.{failed_of}
 use Rattle.refusals.specs.PartWords.{part_word}
 use Rattle.refusals.specs.Refusal.{refusal_number, refusal_name}
 
--- the words of the place, where there is one
+-- the end of the line that names the place, if there is one
 abbrev pub at_text : Option (List ℕ) → List ℕ
 at_text None = []
 at_text (Some place) = codes " at " ++ place
@@ -34,7 +34,7 @@ json_place_text (JsonPlace.Missing part) = codes "missing " ++ part_word part
 json_place_text (JsonPlace.Wrong part) = codes "wrong " ++ part_word part
 json_place_text (JsonPlace.Stray entry) = codes "stray " ++ decimal entry
 
--- the words of a place, where there is one
+-- the printed place, if there is one
 abbrev pub place_text : Place → Option (List ℕ)
 place_text Nowhere = None
 place_text (At place) = Some (decimal place)

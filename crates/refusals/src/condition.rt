@@ -4,99 +4,100 @@ ghost use Rattle.refusals.specs.Faults.{fault_at as fault_of, unplaced};
 
 use crate::{Fault, Place};
 
-/// A condition of a verifier, RFC 9901 section 7.3, with its number. Each is named for its failure,
-/// and they stand in the order in which they are judged.
+/// A condition of a verifier, RFC 9901 section 7.3, with its number. Each condition is named for
+/// its failure, and a verifier judges them in this order.
 #[derive(Clone, Copy, Debug, PartialEq, Eq)]
 pub enum Condition {
-    /// A token is short enough.
+    /// The token is too long.
     TooLong = 1,
-    /// A token has a form of RFC 9901 section 4 or 8.
+    /// The token is in no form of RFC 9901 sections 4 and 8.
     Form = 2,
-    /// A token has few enough disclosures.
+    /// The token has too many disclosures, or would be too long in the compact form.
     TooMuch = 3,
-    /// There is a key binding token.
+    /// The policy asks for key binding, and the token has no key binding token (section 4.3).
     BindingMissing = 4,
-    /// The header of a token is read.
+    /// A header of the token cannot be read.
     HeaderUnreadable = 5,
-    /// No header has `crit`.
+    /// A header of the token has a member `crit` (RFC 7515 section 4.1.11).
     HeaderCritical = 6,
-    /// The policy allows the algorithm.
+    /// The policy does not allow the algorithm that the header names.
     AlgRefused = 7,
-    /// The type is that of the policy.
+    /// The `typ` of the header is missing or is not the one that the policy names.
     TypeRefused = 8,
-    /// The key set has the issuer's key.
+    /// The key set has no key for the issuer's signature.
     IssuerKeyUnknown = 9,
-    /// The issuer's signature is good.
+    /// The issuer's signature is not valid for the header and the payload.
     BadSignature = 10,
-    /// The payload of a token is read.
+    /// The signed payload cannot be read as a JSON object.
     PayloadUnreadable = 11,
-    /// The hash that a payload names is known.
+    /// The hash that `_sd_alg` of the payload names is not supported (section 4.1.1).
     HashUnknown = 12,
-    /// Each disclosure is read.
+    /// A disclosure cannot be read (section 4.2).
     DisclosureUnreadable = 13,
-    /// No two disclosures have one digest.
+    /// Two disclosures have the same digest.
     RepeatedDisclosure = 14,
-    /// No reserved name is misused.
+    /// A reserved name is misused: `_sd` is not an array of strings, or `...` is not the only
+    /// member, with a string value, of an array element (section 4.2.4).
     ReservedMisused = 15,
-    /// No two digests that are met are one.
+    /// The same digest appears at two places.
     RepeatedDigest = 16,
-    /// Each disclosure is referenced.
+    /// A disclosure is not referenced by any digest.
     UnreferencedDisclosure = 17,
-    /// Each disclosure has the shape of its place.
+    /// A disclosure has a name where it may not, or lacks one where it must have it.
     WrongShape = 18,
-    /// No disclosure has a reserved name.
+    /// A disclosure gives a claim a reserved name.
     ReservedName = 19,
-    /// No disclosed name is taken.
+    /// A disclosure gives a claim a name that its object already has.
     NameClash = 20,
-    /// The processed payload is not too deep.
+    /// The processed payload nests too deep.
     TooDeep = 21,
-    /// The issuer is that of the policy.
+    /// The claim `iss` is missing or is not one of the issuers that the policy names.
     IssuerRefused = 22,
-    /// Each required claim is there.
+    /// A claim that the policy requires is missing.
     ClaimMissing = 23,
-    /// The times are whole numbers.
+    /// The claim `exp` or `nbf` is present and is not a whole number.
     TimeUnreadable = 24,
-    /// The token is not expired.
+    /// The token has expired: the time `exp` has come, even with the allowed clock skew.
     Expired = 25,
-    /// The token is valid already.
+    /// The token is not valid yet: the time `nbf` has not come, even with the allowed skew.
     NotYet = 26,
-    /// The policy has the holder's key.
+    /// The policy has no key for the holder whom the claim `cnf` names.
     HolderKeyUnknown = 27,
-    /// The header of the key binding token is read.
+    /// The header of the key binding token cannot be read, or it has `crit`.
     BindingHeader = 28,
-    /// Its algorithm is HS256.
+    /// The algorithm of the key binding token is not accepted.
     BindingAlg = 29,
-    /// Its signature is good.
+    /// The signature of the key binding token is not valid for the holder's key.
     BindingSignature = 30,
-    /// Its type is `kb+jwt`.
+    /// The `typ` of the key binding token is missing or is not `kb+jwt`.
     BindingType = 31,
-    /// Its payload is read.
+    /// The payload of the key binding token cannot be read.
     BindingPayload = 32,
-    /// It is not too old.
+    /// The key binding token is older than `max_age` and the clock skew allow.
     BindingStale = 33,
-    /// It is not of the future.
+    /// The key binding token was made in the future, by more than the clock skew.
     BindingEarly = 34,
-    /// Its nonce is that of the policy.
+    /// The nonce of the key binding token is not the one that the policy names.
     NonceDiffers = 35,
-    /// Its audience is that of the policy.
+    /// The audience of the key binding token is not one that the policy names.
     AudienceDiffers = 36,
-    /// Its digest is that of the token.
+    /// The `sd_hash` of the key binding token is not the digest of the token (section 4.3.1).
     HashDiffers = 37,
-    /// Its own times hold.
+    /// The key binding token has expired, is not valid yet, or has an unreadable time.
     BindingTime = 38,
 }
 
 impl Condition {
     ghost use Rattle.refusals.specs.Condition.{number_of, name_of};
 
-    /// Its number, which is printed where it fails: from 1 to 38.
+    /// Returns the number that is printed if the condition fails: from 1 to 38.
     pub fn number(self) -> u8
         ensures { result ≡ number_of self }
     {
         self as u8
     }
 
-    /// Its printed name.
+    /// Returns the printed name.
     pub fn name(self) -> &'static str
         ensures { result.now ≡ name_of self }
     {
@@ -142,14 +143,14 @@ impl Condition {
         }
     }
 
-    /// The fault that it fails, where it names no place.
+    /// Returns the fault of this condition without a place.
     pub fn fault(self) -> Fault
         ensures { result ≡ unplaced self }
     {
         self.fault_at(Place::Nowhere)
     }
 
-    /// The fault that it fails at this place.
+    /// Returns the fault of this condition at `place`.
     pub fn fault_at(self, place: Place) -> Fault
         ensures { result ≡ fault_of self place }
     {

@@ -6,7 +6,7 @@ ghost use Rattle.refusals.specs.Numbered.{one_numbered};
 
 use crate::Condition;
 
-/// A condition of a verifier that fails: its number, and the place that its failure names.
+/// A condition of a verifier that failed: its number, and the place of the failure.
 #[derive(Clone, Copy, Debug, PartialEq, Eq)]
 pub struct Fault {
     /// The number of a [`Condition`](crate::Condition), from 1 to 38.
@@ -18,7 +18,7 @@ pub struct Fault {
 impl Fault {
     ghost use Rattle.refusals.specs.Faults.{failed_of};
 
-    /// The condition that fails.
+    /// Returns the condition that failed.
     pub fn condition(&self) -> Condition
         ensures { result ≡ failed_of self.now }
     {
@@ -66,10 +66,10 @@ impl Fault {
     }
 }
 
-/// Where a condition fails, in its own terms.
+/// The place at which a condition failed.
 #[derive(Clone, Copy, Debug, PartialEq, Eq)]
 pub enum Place {
-    /// The condition names no place.
+    /// The failure has no place.
     Nowhere,
     /// A position, counted from 0: of a byte, a disclosure, a digest or a name.
     At(usize),
@@ -92,7 +92,7 @@ pub enum Part {
 impl Part {
     ghost use Rattle.refusals.specs.PartWords.{part_word};
 
-    /// Its name in the serialization.
+    /// Returns the name of the member in the serialization.
     pub fn word(self) -> &'static str
         ensures { result.now ≡ part_word self }
     {
@@ -111,15 +111,15 @@ impl Part {
 /// What is wrong with a JSON serialization.
 #[derive(Clone, Copy, Debug, PartialEq, Eq)]
 pub enum JsonPlace {
-    /// The text is not read as JSON.
+    /// The input is not JSON.
     NotJson,
-    /// A number is not whole.
+    /// A number is not a whole number.
     NotWhole,
-    /// The value is no object.
+    /// The value is not an object.
     NotObject,
-    /// A member is not there.
+    /// A member is missing.
     Missing(Part),
-    /// A member is not of its form.
+    /// A member does not have its required form.
     Wrong(Part),
     /// A later entry of `signatures` has members that only the first may have. Counted from 0.
     Stray(usize),

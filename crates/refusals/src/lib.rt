@@ -1,9 +1,9 @@
-//! What a token has to meet, what is refused, and the lines that tell of it.
+//! The conditions of a verifier, the refusals of the commands, and the lines that report them.
 //!
-//! A [`Condition`] of a verifier (RFC 9901 section 7) that fails is told as a [`Fault`], at a
-//! [`Place`]. A [`Refusal`] is whatever a command refuses: a condition that fails, or what an
-//! order, a query or an audit does not allow. [`refused_line`], [`placed_line`] and [`fault_line`]
-//! write the line that a user reads.
+//! A [`Fault`] reports a [`Condition`] of a verifier (RFC 9901 section 7) that failed, at a
+//! [`Place`]. A [`Refusal`] is any reason for which a command refuses: a failed condition, or a
+//! fault of an order, a query or an audit. [`refused_line`], [`placed_line`] and [`fault_line`]
+//! return the line that a user reads.
 #![tactic(auto)]
 
 mod condition;

@@ -1,4 +1,4 @@
-// The lines that tell of a refusal.
+// The lines that report a refusal.
 ghost use Rattle.std.specs.Prelude.{◌≡◌, IfOk, string_bytes};
 ghost use Rattle.std.specs.Option.{option_copied};
 ghost use Rattle.refusals.specs.RefusedText.{fault_text, json_place_text, place_text, refused_text};
@@ -7,8 +7,8 @@ use crate::{Fault, JsonPlace, Place, Refusal};
 use sd_outside::{NoMemory, TextBox};
 use std::alloc::Global;
 
-/// The line that tells of a refusal, without its line end: `refused`, its
-/// number, its name and, where there is one, its place.
+/// Returns the line that reports a refusal, without a line end: `refused`, the number, the name
+/// and, if there is one, ` at` and the place. Fails only if memory runs out.
 pub fn refused_line(
     alloc: Global,
     refusal: Refusal,
@@ -47,7 +47,7 @@ fn json_place(alloc: Global, place: JsonPlace) -> Result<String, NoMemory>
     Ok(text)
 }
 
-// The words of a place, where there is one.
+// The printed place, if there is one.
 fn place_words(alloc: Global, place: Place) -> Result<Option<TextBox>, NoMemory>
     ensures { IfOk result (λ words. words ≡ place_text place) }
 {
@@ -59,7 +59,8 @@ fn place_words(alloc: Global, place: Place) -> Result<Option<TextBox>, NoMemory>
     Ok(Some(TextBox::from_string(words)))
 }
 
-/// The same of a refusal at such a place.
+/// Returns the line that reports a refusal at `place`, without a line end. Fails only if memory
+/// runs out.
 pub fn placed_line(alloc: Global, refusal: Refusal, place: Place) -> Result<TextBox, NoMemory>
     ensures { IfOk result (λ line. line ≡ refused_text refusal (place_text place)) }
 {
@@ -67,7 +68,8 @@ pub fn placed_line(alloc: Global, refusal: Refusal, place: Place) -> Result<Text
     refused_line(alloc, refusal, words.as_ref())
 }
 
-/// The line that tells of a condition that fails, without its line end.
+/// Returns the line that reports a failed condition, without a line end. Fails only if memory runs
+/// out.
 pub fn fault_line(alloc: Global, fault: &Fault) -> Result<TextBox, NoMemory>
     ensures { IfOk result (λ line. line ≡ fault_text fault.now) }
 {

@@ -3,60 +3,59 @@ ghost use Rattle.std.specs.Prelude.{◌≡◌};
 
 use crate::Condition;
 
-/// Why something is refused, with the number and the name that its line tells. A number that was
-/// printed once never gets another meaning.
+/// The reason for a refusal, with its printed number and name. A number never changes its meaning.
 #[derive(Clone, Copy, Debug, PartialEq, Eq)]
 pub enum Refusal {
     /// A token fails this condition: 1 to 38.
     Condition(Condition),
-    /// 51: the payload of an order is no object.
+    /// 51: the payload of an order is not a JSON object.
     PayloadNotObject,
-    /// 52: the payload of an order has a reserved name.
+    /// 52: the payload of an order has a member with a reserved name.
     ReservedInPayload,
     /// 53: the payload of an order nests too deep.
     PayloadTooDeep,
-    /// 54: a path to hide is that of the whole payload.
+    /// 54: a path to hide is the path of the whole payload.
     RootMarked,
     /// 55: a path to hide leads nowhere.
     NoSuchPlace,
-    /// 56: a path to hide leads into a claim that a verifier cannot do without.
+    /// 56: a path to hide leads into a claim that a verifier has to see.
     ProtectedClaim,
-    /// 57: decoys are asked for at a place that holds none.
+    /// 57: decoys are ordered at a place that is not an object or an array of the payload.
     DecoyPlace,
-    /// 58: too many paths are to be hidden.
+    /// 58: the order hides too many places.
     TooManyHidden,
-    /// 59: too many decoys are asked for.
+    /// 59: the order asks for too many decoys.
     TooManyDecoys,
-    /// 60: two digests of a token that is made are equal.
+    /// 60: two digests of the issued token are equal.
     DigestClash,
-    /// 61: a token that is made is too long.
+    /// 61: the issued token would be too long.
     IssueTooLong,
-    /// 71: a token to be presented has a key binding token.
+    /// 71: the token to be presented already has a key binding token.
     HasBinding,
     /// 72: a wanted path leads nowhere.
     WantedNotThere,
-    /// 73: the rule of the holder refuses the place of a disclosure.
+    /// 73: the holder's rule forbids the place of a disclosure that would have to be sent.
     ConsentRefused,
-    /// 74: what is to be presented does not name the holder's key.
+    /// 74: the token to be presented does not name the holder's key in `cnf`.
     BindingKeyDiffers,
-    /// 75: what is to be presented is too long.
+    /// 75: the presentation would be too long.
     PresentTooLong,
-    /// 77: no held credential answers a query.
+    /// 77: no held credential meets the query.
     NoCredentialAnswers,
     /// 80: the order of an audited token is itself refused.
     OrderRefused,
-    /// 81: the signed part of an audited token is not what its order asks for.
+    /// 81: the signed part of an audited token is not the one that its order asks for.
     SignedPartDiffers,
-    /// 82: the payload or a disclosure of an audited token is not written as its order asks for.
+    /// 82: the payload or a disclosure of an audited token is not written as the issuer writes it.
     WrittenFormDiffers,
     /// 83: the disclosures of an audited token do not open it to its order's payload.
     PayloadDiffers,
     /// 84: the digests of an audited token are not those of its disclosures and
     /// of its order's decoys.
     DigestsDiffer,
-    /// 85: decoys of an audited token do not stand where its order puts them.
+    /// 85: the decoys of an audited token are not at the places that its order asks for.
     DecoysDiffer,
-    /// 86: a list `_sd` of an audited token does not ascend.
+    /// 86: an array `_sd` of an audited token is empty or is not in ascending order.
     SdOrderDiffers,
     /// 87: the input of a feed is too long.
     FeedTooLong,
@@ -65,7 +64,7 @@ pub enum Refusal {
 impl Refusal {
     ghost use Rattle.refusals.specs.Refusal.{refusal_number, refusal_name};
 
-    /// Its printed number.
+    /// Returns the printed number.
     pub fn number(self) -> u8
         ensures { result ≡ refusal_number self }
     {
@@ -99,7 +98,7 @@ impl Refusal {
         }
     }
 
-    /// Its printed name.
+    /// Returns the printed name.
     pub fn name(self) -> &'static str
         ensures { result.now ≡ refusal_name self }
     {

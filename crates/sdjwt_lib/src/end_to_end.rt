@@ -1,4 +1,4 @@
-// A credential from its issuer over its holder to a verifier.
+// A credential from its issuer through its holder to a verifier.
 ghost use Rattle.std.specs.Prelude.{◌≡◌, ◌≢◌, ◌≤◌, IfOk, IfErr, codes};
 ghost use Rattle.sd_outside.specs.Limits.{json_depth_max};
 ghost use Rattle.claim_tree.specs.Tree.{depth};
@@ -34,7 +34,7 @@ use selection_core::Consent;
 use std::alloc::Global;
 use verifier_core::{Policy, VerifyError, verify_payload};
 
-/// Who issues: what is asked for, the seed of the salts, and the key that signs.
+/// An issuer: the order, the seed of the salts, and the signing key.
 #[derive(Drop)]
 pub struct Issuer {
     pub order: Order,
@@ -42,14 +42,14 @@ pub struct Issuer {
     pub key: HsKey,
 }
 
-/// Who presents: what is asked, and which places may be shown.
+/// A holder: the request for a presentation, and the rule for which places may be shown.
 #[derive(Drop)]
 pub struct Holder<F: Fn(&Path) -> bool> {
     pub ask: Ask,
     pub consent: Consent<F>,
 }
 
-// The compact text of what is issued.
+// The compact form of the issued token.
 fn issued(alloc: Global, issuer: Issuer) -> Result<TextBox, IssueError>
     requires depth { depth (tree_of issuer.order.payload) ≤ json_depth_max }
     ensures issued { IfOk result (IsIssuedText issuer.seed (order_of issuer.order) issuer.key) }
@@ -69,7 +69,7 @@ fn issued(alloc: Global, issuer: Issuer) -> Result<TextBox, IssueError>
     }
 }
 
-// The compact text of what is presented of a token, where nothing is refused that is asked for.
+// The compact form of the presentation of a token, if no refusal applies to the request.
 fn presented<F: Fn(&Path) -> bool>(
     alloc: Global,
     token: &str,
@@ -94,7 +94,7 @@ fn presented<F: Fn(&Path) -> bool>(
     }
 }
 
-// The processed payload of a presentation of which no condition fails.
+// The processed payload of a presentation that fails no condition.
 fn verified(alloc: Global, presentation: &str, policy: &Policy, now: u64) -> Result<Tree, NoMemory>
     requires passes { (fault : Fault) → IsLowest (Fails presentation.now policy.now now) fault → ⊥ }
     ensures { IfOk result
@@ -108,13 +108,13 @@ fn verified(alloc: Global, presentation: &str, policy: &Policy, now: u64) -> Res
     }
 }
 
-/// Issues a token for an order, presents what is asked of it, and answers the processed payload
-/// that a verifier finds. The moments are in seconds since 1970.
+/// Issues a token for an order, presents the requested claims, verifies the presentation, and
+/// returns the processed payload. Times are in seconds since 1970.
 ///
-/// The policy suits what is asked (`Suits`). Then the answer is the payload of
-/// the order without the hidden places that lead to none of the wanted ones,
-/// and nothing is refused but by the issuer, for a cause that the clauses tell:
-/// an order to which one of the refusals applies has no answer (`issued`).
+/// The policy must suit the request (`suits`). On success the result is the order's payload without
+/// the hidden places that lead to no requested place (`shown`). Only the issuer can refuse, for a
+/// cause that `refused` names; an order to which a refusal applies never succeeds (`issued`). The
+/// call also fails if memory runs out.
 pub fn issue_present_verify<F: Fn(&Path) -> bool>(
     alloc: Global,
     issuer: Issuer,

@@ -4,28 +4,28 @@
 //! The line `your_service: sdjwt_lib` of `crates.txt` gives a program each crate of the table. In
 //! code, `verifier_core::verify` is written `sdjwt_lib::verifier_core::verify`. In contracts,
 //! `Rattle.verifier_core.specs.Verdict` is written `Rattle.sdjwt_lib.specs.verifier_core.Verdict`,
-//! and in proofs the lemmas of `Rattle.verifier_core.proofs` stand in
+//! and in proofs the lemmas of `Rattle.verifier_core.proofs` are in
 //! `Rattle.sdjwt_lib.proofs.Lemmas.verifier_core`.
 //!
 //! | Crates | For |
 //! |---|---|
 //! | `verifier_core`, `feed_core` | to verify a presentation, or one on each line |
-//! | `issuer_core`, `audit_core` | to issue a token, or to say whether one is as ordered |
-//! | `holder_core`, `wallet_core` | to present a token, or the one that answers a query |
-//! | `selection_core` | to choose what is shown, and to ask the holder |
-//! | `hmac_sign`, `key_binding` | keys and signers, and what a caller says of signatures |
-//! | `compact_form`, `json_form` | the text of a token, and its limits |
-//! | `refusals` | conditions and refusals, and the lines that tell of them |
-//! | `jws_part`, `disclosure` | its header and payload, and its disclosures |
-//! | `claim_tree`, `marked_tree` | JSON, and JSON that tells what each disclosure shows |
+//! | `issuer_core`, `audit_core` | to issue a token, or to check a token against its order |
+//! | `holder_core`, `wallet_core` | to present a token, or the credential that meets a query |
+//! | `selection_core` | to choose the disclosures, under the holder's consent |
+//! | `hmac_sign`, `key_binding` | keys and signers, and a caller's answers about signatures |
+//! | `compact_form`, `json_form` | the serializations of a token, and their limits |
+//! | `refusals` | conditions and refusals, and the lines that report them |
+//! | `jws_part`, `disclosure` | the header and payload of a token, and its disclosures |
+//! | `claim_tree`, `marked_tree` | JSON, and JSON that marks what each disclosure shows |
 //! | `file_members` | the members of policies, orders and queries, and why a file is refused |
-//! | `digest_index`, `digest_sites`, `rebuild_core` | digests and what stands behind them |
-//! | `sd_outside`, `b64url_text` | texts and bytes, and where they come from and go |
-//! | `sdjwt_cli`, `cli_parts` | the commands of the program, and what is around them |
+//! | `digest_index`, `digest_sites`, `rebuild_core` | digests, and the values that they refer to |
+//! | `sd_outside`, `b64url_text` | strings and bytes, their sources and destinations |
+//! | `sdjwt_cli`, `cli_parts` | the commands of the program, and their common parts |
 //!
-//! [`issue_present_verify`] is all three ends one behind another: its contract is what the
-//! libraries promise together. `docs/LIBRARY.md` says which call is for what, and the crate
-//! `examples_service` is a program that names this crate alone.
+//! [`issue_present_verify`] issues, presents and verifies in one call: its contract says what the
+//! libraries promise together. `docs/LIBRARY.md` says which call is for what. The crate
+//! `examples_service` is a program that depends only on this crate.
 #![tactic(auto)]
 
 mod end_to_end;

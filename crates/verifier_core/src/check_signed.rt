@@ -20,14 +20,14 @@ use refusals::Condition;
 use sd_outside::{NoMemory, TextBox, TextList};
 use std::alloc::Global;
 
-// A condition that names no place.
+// The fault of a condition without a place.
 pub(crate) fn fails(condition: Condition) -> VerifyError
     ensures { result ≡ error.VerifyError.Fault (unplaced condition) }
 {
     VerifyError::Fault(condition.fault())
 }
 
-// The key that a header asks for, of its algorithm.
+// The key for a header: by its `kid`, if it has one, and its algorithm.
 fn key_for<'a>(keys: &'a KeySet, header: &Header) -> Option<&'a HsKey>
     ensures { option_map (λ key. key.now) result ≡ key_for_of keys.now header.now }
 {
@@ -38,7 +38,7 @@ fn key_for<'a>(keys: &'a KeySet, header: &Header) -> Option<&'a HsKey>
     }
 }
 
-// Whether the algorithm of this name is not known, or is none of those.
+// Whether the algorithm of this name is unknown or is not in the list.
 fn is_name_refused(algs: &TextList, alg: &str) -> bool
     ensures { TestTells result (IsAlgRefused algs.now alg.now) }
 {
@@ -48,7 +48,7 @@ fn is_name_refused(algs: &TextList, alg: &str) -> bool
     !algs.contains(alg)
 }
 
-// Whether signatures of this algorithm are not taken.
+// Whether the verifier refuses signatures of this algorithm.
 fn is_alg_refused(issuers: Issuers<'_>, alg: &str) -> bool
     ensures { TestTells result (IsAlgRefusedBy (issuers_of issuers.entry) alg.now) }
 {
@@ -58,7 +58,7 @@ fn is_alg_refused(issuers: Issuers<'_>, alg: &str) -> bool
     }
 }
 
-// What there is to say of the signature under the key that the header asks for.
+// Says whether the signature is good or bad under the key for the header, or the key is unknown.
 fn answer_of_keys(
     alloc: Global,
     keys: &KeySet,
@@ -81,7 +81,7 @@ fn answer_of_keys(
     }
 }
 
-// What there is to say of the signature.
+// Says whether the signature is good or bad, or its key is unknown.
 fn answer_on(
     alloc: Global,
     issuers: Issuers<'_>,

@@ -1,4 +1,4 @@
-// What is asked of the claims of the processed payload.
+// The conditions on the claims of the processed payload.
 ghost use Rattle.std.specs.Prelude.{◌≡◌, ◌≢◌, ◌↔◌, ℕ, Some, None, codes, IsTrue, OnOk, IfErr, IfSome, IfNone};
 ghost use Rattle.claim_tree.specs.Tree.{Text, get as get_of};
 ghost use Rattle.sd_outside.specs.Lists.{StandsAt, IsLeast};
@@ -22,7 +22,8 @@ fn has_issuer(payload: &Tree, issuers: &TextList) -> bool
     }
 }
 
-// Whether an issuer is wanted, and the payload names none or another (RFC 7519 section 4.1.1).
+// Whether the policy names issuers, and the payload names no issuer or another one (RFC 7519
+// section 4.1.1).
 fn is_issuer_refused(payload: &Tree, demands: &Demands<'_>) -> bool
     ensures { IsTrue result
         ↔ IsIssuerRefused demands.now.iss (get_of (tree_of payload.now) (codes "iss")) }
@@ -52,8 +53,8 @@ fn first_missing(payload: &Tree, names: &TextList) -> Option<usize>
     None
 }
 
-// Whether the claims of a processed payload are as is asked, at a moment in seconds since 1970. The
-// fault is that of the lowest condition that fails.
+// Judges the claims of a processed payload at a time in seconds since 1970. The error is the fault
+// of the lowest condition that fails.
 pub(crate) fn check_claims(payload: &Tree, demands: &Demands<'_>, now: u64) -> Result<(), Fault>
     ensures passes { OnOk result (NoneFails (ClaimFails (tree_of payload.now) demands.now now)) }
     ensures lowest { IfErr result (IsLowest (ClaimFails (tree_of payload.now) demands.now now)) }

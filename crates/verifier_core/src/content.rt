@@ -1,5 +1,5 @@
-// What is read of a token by the conditions 5 to 13, and what is opened of it
-// by the conditions 14 to 21.
+// The content of a token: read by the conditions 5 to 13, and opened by the
+// conditions 14 to 21.
 ghost use Rattle.std.specs.Prelude.{◌≡◌, ◌≤◌, ◌<◌, ◌-◌, ◌^◌, length, IfOk, IfErr, OnOk};
 ghost use Rattle.sd_outside.specs.Limits.{json_depth_max};
 ghost use Rattle.claim_tree.specs.Tree.{depth};
@@ -28,9 +28,8 @@ use refusals::Condition;
 use std::alloc::Global;
 use std::marker::Model;
 
-/// What is read of a token that passes the conditions 5 to 13: its payload, the
-/// algorithm of its digests, and what its disclosures give. It is to be opened,
-/// by [`Content::open`] or [`Content::open_payload`].
+/// The content of a token that passes the conditions 5 to 13: its payload, the algorithm of its
+/// digests, and its disclosures. [`Content::open`] or [`Content::open_payload`] opens it.
 #[derive(Drop)]
 pub struct Content {
     body: Tree,
@@ -71,7 +70,7 @@ fn refusal(error: ProcessError) -> VerifyError
     }
 }
 
-// The answer to what is processed, or not.
+// Turns a result of processing into a result of verifying.
 fn judged<T>(processed: Result<T, ProcessError>) -> Result<T, VerifyError>
     ensures { result ≡ judged_of processed }
 {
@@ -82,10 +81,10 @@ fn judged<T>(processed: Result<T, ProcessError>) -> Result<T, VerifyError>
 }
 
 impl Content {
-    /// Judges a token by the conditions 5 to 13, RFC 9901 section 7.3, and reads what it says. The
+    /// Judges a token by the conditions 5 to 13, RFC 9901 section 7.3, and reads its content. The
     /// header, the signature, the payload and the disclosures are judged in this order, and the
-    /// first condition that fails is answered. A reader that is kept reads many tokens in the same
-    /// memory.
+    /// error is the first condition that fails. A caller that keeps the reader reads many tokens in
+    /// the same memory.
     pub fn read(
         alloc: Global,
         reader: &mut DisclosureReader,
@@ -123,16 +122,16 @@ impl Content {
         })
     }
 
-    /// The algorithm of the token's digests.
+    /// Returns the algorithm of the token's digests.
     pub fn hash(&self) -> HashAlg
         ensures { OfToken self.now (λ token rules. HasHash token result) }
     {
         self.hash
     }
 
-    /// Judges what was read by the conditions 14 to 21, and answers the
-    /// processed payload, where each node that a disclosure shows has the
-    /// number of the disclosure. `steps` counts the look-ups of digests.
+    /// Judges the content by the conditions 14 to 21, and returns the processed payload, in which
+    /// each node that a disclosure shows has the number of the disclosure. `steps` counts the
+    /// look-ups of digests.
     pub fn open(self, alloc: Global, steps: &mut Steps) -> Result<Marked, VerifyError>
         ensures checked { OfToken self
             (λ token rules. IfOk result (λ marked. IsChecked token rules (marked_of marked))) }
@@ -144,8 +143,8 @@ impl Content {
         judged(process_seeded(alloc, self.body, self.given, self.seed, steps))
     }
 
-    /// The same, without the marks. Neither copies what the issuer signed or
-    /// what the disclosures give.
+    /// Judges the content as [`Content::open`] does, and returns the processed payload without
+    /// marks. Neither call copies the signed payload or the values of the disclosures.
     pub fn open_payload(self, alloc: Global, steps: &mut Steps) -> Result<Tree, VerifyError>
         ensures checked { OfToken self
             (λ token rules. IfOk result (λ payload. IsCheckedAs token rules (tree_of payload))) }

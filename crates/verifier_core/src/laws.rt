@@ -1,4 +1,4 @@
-//! What the definitions of conditions and policies say together. Each law holds for every value.
+//! Laws about the definitions of conditions and policies. Each law holds for every value.
 ghost use Rattle.std.specs.Prelude.{◌≡◌, ◌≢◌, ◌≤◌, ℕ, List, false, length};
 ghost use Rattle.sd_outside.specs.Limits.{file_max};
 ghost use Rattle.file_members.specs.declared.file_fault.FileFault.{FileFault};
@@ -26,7 +26,7 @@ ghost use Rattle.verifier_core.specs.declared.policy.Policy.{Policy};
 
 use hmac_sign::Signatures;
 
-/// A file says one policy or is refused, and has one fault beside want of memory.
+/// A file either is one policy or is refused with one fault, apart from a lack of memory.
 pub fn one_policy()
     ensures one { (bytes : List ℕ) (policy other : Policy) → IsPolicyFile bytes policy
         → IsPolicyFile bytes other → policy ≡ other }
@@ -37,8 +37,8 @@ pub fn one_policy()
         → fault ≡ other }
 {}
 
-/// A policy of version 1 is that of version 2 with the same members, where
-/// `iss` and the audience are lists of one.
+/// A policy of version 1 equals the policy of version 2 with the same members, in which `iss` and
+/// the audience are lists of one.
 pub fn version_one()
     ensures said { (one two : List ℕ) (policy : Policy) → length two ≤ file_max → SaysInTwo one two
         → IsPolicyFile one policy → IsPolicyFile two policy }
@@ -46,7 +46,8 @@ pub fn version_one()
         → SaysInTwo one two → IsPolicyFile one policy → IsPolicyFile two other → policy ≡ other }
 {}
 
-/// A text under a policy at a moment is accepted with one payload, or refused with one fault.
+/// Under a policy and at a time, a token file is either accepted with one payload or refused with
+/// one fault.
 pub fn one_verdict()
     ensures not_both { (content : List ℕ) (policy : Policy) (now : ℕ) (marked : Marked)
         (fault : Fault) → IsAccepted content policy now marked

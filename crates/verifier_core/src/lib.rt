@@ -1,12 +1,12 @@
-//! What a verifier wants of a token, and the conditions by which it refuses one
+//! The rules of a verifier for a token, and the conditions under which it refuses the token
 //! (RFC 9901 section 7.3).
 //!
 //! [`read_policy`] reads a [`Policy`] from its file, and [`verify`] and [`verify_payload`] judge a
 //! token file under it, by the conditions 1 to 38. [`check_token`] judges a token itself,
-//! [`check_view`] one that is borrowed. They take two steps, which a caller may take apart:
+//! [`check_view`] a borrowed token. They take two steps, which a caller may also take one by one:
 //! [`Content::read`] reads a token by the conditions 5 to 13, under [`Rules`], and
-//! [`Content::open`] and [`Content::open_payload`] judge the others. [`fault_line`] is the line
-//! that tells of a condition that fails.
+//! [`Content::open`] and [`Content::open_payload`] judge the others. [`fault_line`] returns
+//! the line that reports a failed condition.
 #![tactic(auto)]
 
 mod asking;

@@ -1,4 +1,4 @@
-// What is asked of a token, whoever may sign it.
+// The rules for a token and its signature.
 ghost use Rattle.std.specs.Prelude.{◌≡◌};
 ghost use Rattle.std.specs.Option.{option_copied};
 ghost use Rattle.verifier_core.specs.Verdict.{asked};
@@ -11,26 +11,26 @@ use std::marker::Model;
 /// Who may sign a token.
 #[derive(Clone, Copy)]
 pub enum Issuers<'a> {
-    /// The holders of these keys, with these algorithms, of those that are known.
+    /// The holders of these keys, with these of the known algorithms.
     Keys {
         keys: &'a KeySet,
         algs: &'a TextList,
     },
-    /// Whom a caller says that checks signatures itself.
+    /// The issuers that a caller knows, which checks signatures itself.
     Caller(Caller<'a>),
 }
 
-/// What is asked of a token itself.
+/// The rules for a token itself.
 #[derive(Drop)]
 pub struct Rules<'a> {
     /// Who may sign it.
     pub issuers: Issuers<'a>,
-    /// The type that the header has to name (RFC 7515 section 4.1.9), where one is wanted.
+    /// The type that the header has to name (RFC 7515 section 4.1.9), if the rules name one.
     pub typ: Option<&'a TextBox>,
 }
 
 impl<'a> Rules<'a> {
-    /// Those of a set of keys, with these algorithms, and a type.
+    /// Returns the rules for a set of keys, with these algorithms, and a type.
     pub fn of_keys(keys: &'a KeySet, algs: &'a TextList, typ: Option<&'a TextBox>) -> Rules<'a>
         ensures { result ≡ asked keys.now algs.now (option_copied typ.entry) }
     {
@@ -51,8 +51,8 @@ impl<'a> Model for Rules<'a> {
     ghost view = { λ r. record { issuers = issuers_of r.issuers; typ = option_copied r.typ } };
 }
 
-/// What is asked of a token file: of the token itself, of the claims of its processed payload, and
-/// of a key binding token, where one is asked for.
+/// The rules for a token file: for the token itself, for the claims of its processed payload, and
+/// for a key binding token, if one is required.
 #[derive(Drop)]
 pub(crate) struct Demands<'a> {
     pub(crate) rules: Rules<'a>,

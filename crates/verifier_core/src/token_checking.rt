@@ -23,21 +23,22 @@ use refusals::{Condition, Fault, Place};
 use sd_outside::{NoMemory, TextBox, TextList};
 use std::alloc::Global;
 
-/// What a token that is checked says.
+/// The contents of a checked token.
 #[derive(Debug, Drop)]
 pub struct Checked {
     /// The processed payload.
     pub payload: Tree,
-    /// The same, where each node that a disclosure shows has the number of the disclosure.
+    /// The processed payload, in which each node that a disclosure shows has the number of that
+    /// disclosure.
     pub marked: Marked,
-    /// The algorithm of its digests.
+    /// The algorithm of the token's digests.
     pub hash: HashAlg,
 }
 
 /// Why a token is not accepted.
 #[derive(Clone, Copy, Debug, PartialEq, Eq)]
 pub enum VerifyError {
-    /// There was no memory for the answer.
+    /// Memory ran out.
     Memory,
     /// The lowest condition that fails, with its least place.
     Fault(Fault),
@@ -53,14 +54,14 @@ impl From<NoMemory> for VerifyError {
     }
 }
 
-// A condition that fails at a number.
+// The fault of a condition at a position.
 pub(crate) fn fails_at(condition: Condition, place: usize) -> VerifyError
     ensures { result ≡ VerifyError.Fault (placed condition place) }
 {
     VerifyError::Fault(condition.fault_at(Place::At(place)))
 }
 
-// The conditions 5 to 21 of a token, wherever its parts stand.
+// The conditions 5 to 21 of a token, owned or borrowed.
 fn check(
     alloc: Global,
     token: &TokenView<'_>,
@@ -100,7 +101,7 @@ fn check(
 /// its key binding token.
 ///
 /// The header, the signature, the payload and the disclosures are judged in this order, and the
-/// first condition that fails is answered. `steps` counts the look-ups of digests.
+/// error is the first condition that fails. `steps` counts the look-ups of digests.
 pub fn check_token(
     alloc: Global,
     token: &Token,
@@ -134,7 +135,7 @@ pub fn check_token(
     )
 }
 
-/// Checks a compact token whose parts are borrowed from its text, as [`check_token`] does.
+/// Checks a compact token as [`check_token`] does, with its parts borrowed from the string.
 pub fn check_view(
     alloc: Global,
     view: &View<'_>,

@@ -23,12 +23,13 @@ use marked_tree::{Marked, strip};
 use refusals::Condition;
 use std::alloc::Global;
 
-/// What a token that is accepted says.
+/// The contents of an accepted token.
 #[derive(Debug, Drop)]
 pub struct Accepted {
     /// The processed payload.
     pub payload: Tree,
-    /// The same, where each node that a disclosure shows has the number of the disclosure.
+    /// The processed payload, in which each node that a disclosure shows has the number of that
+    /// disclosure.
     pub marked: Marked,
 }
 
@@ -69,7 +70,7 @@ pub(crate) fn read_content(
     Content::read(alloc, reader, &view, &demands.rules)
 }
 
-// The conditions 1 to 13 of a text.
+// The conditions 1 to 13 of a token file.
 fn read<'a>(
     alloc: Global,
     reader: &mut DisclosureReader,
@@ -91,12 +92,12 @@ fn read<'a>(
     }
 }
 
-// What a token is opened to: its processed payload, with its marks or alone.
+// The result of opening a token: its processed payload, with or without its marks.
 trait Opened: Drop {
     // Whether it shows the processed payload that has these marks.
     ghost Shows: { Self → SeenMarked → Type 0 };
 
-    // Judges what was read by the conditions 14 to 21.
+    // Judges the token that was read by the conditions 14 to 21.
     fn open(content: Content, alloc: Global, steps: &mut Steps) -> Result<Self, VerifyError>
         ensures checked { OfToken content
             (λ token rules. IfOk result
@@ -143,7 +144,7 @@ impl Opened for Tree {
     }
 }
 
-// The verdict on a token file, with what the token is opened to.
+// The verdict on a token file, with the result of opening the token.
 fn judged<T: Opened>(
     alloc: Global,
     reader: &mut DisclosureReader,
@@ -178,13 +179,14 @@ fn judged<T: Opened>(
     Ok(opened)
 }
 
-/// Verifies a token as it comes from a file, RFC 9901 section 7.3, at a moment
-/// in seconds since 1970. The token is in the compact serialization or, where
-/// its text begins with `{`, in a JSON one (section 8).
+/// Verifies a token file as RFC 9901 section 7.3 says, at the time `now` in seconds since 1970. The
+/// token is in the compact serialization or, if it begins with `{`, in a JSON serialization
+/// (section 8).
 ///
-/// The conditions 1 to 38 are judged in the order of their numbers, and the first that fails is
-/// answered with its least place. A key binding token that is there without being asked for is read
-/// as grammar and otherwise ignored. `steps` counts the look-ups of digests.
+/// The conditions 1 to 38 are judged in the order of their numbers. If one fails, the error is the
+/// first that fails, with its least place; otherwise only a lack of memory is an error. If the
+/// policy does not ask for key binding, a key binding token is only checked for its syntax. `steps`
+/// counts the look-ups of digests.
 pub fn verify(
     alloc: Global,
     text: &[u8],
@@ -202,7 +204,7 @@ pub fn verify(
     judged(alloc, &mut reader, text, &policy.demands(), now, steps)
 }
 
-/// The same, for who needs no marks: the processed payload alone.
+/// Verifies a token file as [`verify`] does, and returns only the processed payload, without marks.
 pub fn verify_payload(
     alloc: Global,
     text: &[u8],
@@ -220,7 +222,8 @@ pub fn verify_payload(
     verify_payload_with(alloc, &mut reader, text, policy, now, steps)
 }
 
-/// The same, for who verifies many tokens: a reader that is kept reads them in the same memory.
+/// Verifies a token file as [`verify_payload`] does, with a reader that the caller keeps: it reads
+/// many tokens in the same memory.
 pub fn verify_payload_with(
     alloc: Global,
     reader: &mut DisclosureReader,
