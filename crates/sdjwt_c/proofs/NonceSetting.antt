@@ -4,9 +4,9 @@ use Rattle.std.specs.Prelude.{◌↔◌, OnOk, OnErr, IsErrOf, IsSome, IsNone, i
 use Rattle.std.specs.Str.{IsUtf8}
 use Rattle.std.proofs.lemmas.Bool.{cases_lt}
 use Rattle.sd_outside.specs.Limits.{binding_text_max}
-use Rattle.sdjwt_c.specs.Nonces.{with_nonce}
-use Rattle.sdjwt_c.specs.declared.nonce.NonceError.{NonceError}
-use Rattle.sdjwt_c.specs.declared.nonce.NonceError.TheVariants.{Memory, NoBinding, TooLong}
+use Rattle.verifier_core.specs.Nonces.{with_nonce}
+use Rattle.verifier_core.specs.declared.nonce.NonceError.{NonceError}
+use Rattle.verifier_core.specs.declared.nonce.NonceError.TheVariants.{Memory, NoBinding, TooLong}
 use Rattle.verifier_core.specs.declared.policy.Policy.{Policy}
 use Rattle.sdjwt_c.specs.Policies.{TakesNonce, no_binding, too_long, SetsNonce, set, misused, no_memory}
 use Rattle.sdjwt_c.specs.PolicySteps.{nonce_number}

@@ -2,7 +2,6 @@ pub mod Handed
 pub mod Held
 pub mod Judging
 pub mod JudgingSteps
-pub mod Nonces
 pub mod Numbers
 pub mod Policies
 pub mod PolicySteps

@@ -8,7 +8,7 @@ use Rattle.sdjwt_cli.specs.Verify.{VerifiesUnder, DoesNotVerifyUnder}
 use Rattle.cli_parts.specs.Telling.{TellsFileFault}
 use Rattle.verifier_core.specs.declared.policy.Policy.{Policy}
 use Rattle.verifier_core.specs.PolicyFile.{IsPolicyFile, IsPolicyFileRefused}
-use Rattle.sdjwt_c.specs.Nonces.{with_nonce}
+use Rattle.verifier_core.specs.Nonces.{with_nonce}
 
 -- the file says a policy, and there is no more to tell
 pub record IsReadPolicy (file text : List ℕ) : Type 0 where

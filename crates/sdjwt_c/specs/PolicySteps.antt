@@ -1,7 +1,7 @@
 -- For private functions: the number of what a policy says of a nonce.
 use Rattle.std.specs.Prelude.{ℕ, Result, Ok, Err}
-use Rattle.sdjwt_c.specs.declared.nonce.NonceError.{NonceError}
-use Rattle.sdjwt_c.specs.declared.nonce.NonceError.TheVariants.{Memory, NoBinding, TooLong}
+use Rattle.verifier_core.specs.declared.nonce.NonceError.{NonceError}
+use Rattle.verifier_core.specs.declared.nonce.NonceError.TheVariants.{Memory, NoBinding, TooLong}
 
 abbrev pub nonce_number : {X : Type 0} → Result X NonceError → ℕ
 nonce_number (Ok x) = 0

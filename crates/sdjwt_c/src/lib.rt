@@ -16,7 +16,6 @@ mod commands;
 mod handle;
 mod judging;
 mod loose;
-mod nonce;
 mod parts;
 mod policy;
 mod presenting;

@@ -12,11 +12,10 @@ ghost use Rattle.sdjwt_c.specs.PolicySteps.{nonce_number};
 use crate::answer::{hand, leave};
 use crate::boxed::{put, read, take};
 use crate::handle::SdjwtPolicy;
-use crate::nonce::{NonceError, set_nonce};
 use sd_outside::Status;
 use sdjwt_cli::commands;
 use std::alloc::Global;
-use verifier_core::Policy;
+use verifier_core::{NonceError, Policy};
 
 /// Reads a policy, which the handle holds from then on in place of what it held. Where it is none,
 /// the handle holds what it held before. The answer is empty.
@@ -82,7 +81,7 @@ fn nonce_status(set: Result<(), NonceError>) -> Status
 fn with_nonce(alloc: Global, policy: &mut Policy, nonce: &str) -> Status
     ensures { SetsNonce (Some policy.old) nonce.now (Some policy.new) (status_number result) }
 {
-    nonce_status(set_nonce(alloc, policy, nonce))
+    nonce_status(policy.set_nonce(alloc, nonce))
 }
 
 /// Sets the nonce that the policy of the handle wants of a key binding token, for the calls that

@@ -1,5 +1,6 @@
 pub mod PolicyFile
 pub mod PolicyVersion
+pub mod Nonces
 pub mod VersionTwo
 pub mod Verdict
 pub mod Seen

@@ -446,7 +446,9 @@ fn judge_token(
 /// then of that of the key binding token, when the conditions up to 26 and 28 and 29 do
 /// not. Each call judges the text anew and keeps nothing. The keys of the policy are not
 /// looked at; its `algs` are the algorithms that are taken of the issuer, `binding_algs`
-/// those of the holder (of which see [`Caller`]). `steps` counts the look-ups of digests.
+/// those of the holder (of which see [`Caller`]). A policy file without `algs` allows HS256
+/// alone, so a token of a public key is then refused by condition 7. `steps` counts the look-ups
+/// of digests.
 ///
 /// The caller answers for its word: it has checked the signature over the bytes of the question and
 /// no others, with a key that serves the algorithm that the header names, and that it trusts; for

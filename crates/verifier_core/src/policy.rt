@@ -41,7 +41,8 @@ const FIELDS: [Field; 8] = [
 pub struct Policy {
     /// The keys of the issuers that are trusted.
     pub keys: KeySet,
-    /// The algorithms that the header may name, of those that are known.
+    /// The algorithms that the header may name, of those that are known. A policy file without
+    /// `algs` allows HS256 alone.
     pub algs: TextList,
     /// The type that the header has to name (RFC 7515 section 4.1.9), where one is wanted.
     pub typ: Option<TextBox>,
