@@ -1,5 +1,5 @@
 // A JWT that has no signature yet.
-ghost use Rattle.std.specs.Prelude.{◌≡◌, ◌<◌, ◌++◌, ◌↔◌, [], codes, IfOk, IsErrOf};
+ghost use Rattle.std.specs.Prelude.{◌≡◌, ◌<◌, ◌++◌, ◌↔◌, [], codes, length, IfOk, OnOk, IsErrOf};
 ghost use Rattle.sd_outside.specs.Causes.{Rose};
 ghost use Rattle.hmac_sign.specs.Agreement.{IsSameSigner};
 ghost use Rattle.hmac_sign.specs.SignedJwt.{IsSignedWith, IsSignedBy};
@@ -35,6 +35,7 @@ impl UnsignedJwt {
     /// signed: the answer is [`SignError::Failed`].
     pub fn with_signature(self, alloc: Global, signature: &[u8]) -> Result<JwtParts, SignError>
         ensures signed { IfOk result (IsSignedWith self signature.now) }
+        ensures some { OnOk result (0 < length signature.now) }
         ensures nobody { IsErrOf result SignError.Failed ↔ (signature.now ≡ []) }
     {
         if signature.is_empty() {
