@@ -35,7 +35,7 @@ use crate::standing::are_alike;
 use crate::written::{Written, bare, read_written};
 use claim_tree::PathList;
 use digest_index::Steps;
-use hmac_sign::{Alg, Checker};
+use hmac_sign::{Alg, AlgName, Checker};
 use issuer_core::{IssueError, Order, judged_places, order_refusal};
 use json_form::{TokenError, TokenText, TokenView};
 use sd_outside::TextBox;
@@ -217,7 +217,7 @@ fn judge_token<K: Checker>(
     alloc: Global,
     order: Order,
     places: PathList,
-    alg: &str,
+    alg: &AlgName<'_>,
     checker: &K,
     token: &TokenView<'_>,
     steps: &mut Steps,
@@ -260,7 +260,7 @@ fn judge_token<K: Checker>(
 pub(crate) fn audit_owned<K: Checker>(
     alloc: Global,
     order: Order,
-    alg: &str,
+    alg: &AlgName<'_>,
     checker: &K,
     text: &[u8],
     steps: &mut Steps,
@@ -331,5 +331,5 @@ pub fn audit<K: Checker>(
         text.now → steps.new ≡ steps.old }
 {
     let owned = order.copy(alloc)?;
-    audit_owned(alloc, owned, alg.name(), checker, text, steps)
+    audit_owned(alloc, owned, &alg.alg_name(), checker, text, steps)
 }

@@ -30,7 +30,7 @@ fn audit_for(alloc: Global, asked: IssueFile, token_file: &[u8]) -> Result<Strin
     match audit_owned(
         alloc,
         order,
-        key.alg_name(),
+        &key.alg_name(),
         &key,
         token_file,
         &mut Steps::new(),

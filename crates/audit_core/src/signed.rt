@@ -11,7 +11,7 @@ ghost use Rattle.audit_core.specs.Audited.{IsSignedFor};
 
 use b64url_text::{DecodeError, decode};
 use compact_form::JwtView;
-use hmac_sign::Checker;
+use hmac_sign::{AlgName, Checker};
 use issuer_core::{Order, order_header};
 use json_form::TokenView;
 use jws_part::write_header;
@@ -19,7 +19,12 @@ use sd_outside::NoMemory;
 use std::alloc::Global;
 
 // Whether the protected header is that of the order.
-fn is_header_of(alloc: Global, order: &Order, alg: &str, protected: &str) -> Result<bool, NoMemory>
+fn is_header_of(
+    alloc: Global,
+    order: &Order,
+    alg: &AlgName<'_>,
+    protected: &str,
+) -> Result<bool, NoMemory>
     ensures { IfOk result
         (λ is. IsTrue is
         ↔ (protected.now
@@ -63,7 +68,7 @@ fn is_alone(token: &TokenView<'_>) -> bool
 pub(crate) fn is_signed_for<K: Checker>(
     alloc: Global,
     order: &Order,
-    alg: &str,
+    alg: &AlgName<'_>,
     checker: &K,
     token: &TokenView<'_>,
 ) -> Result<bool, NoMemory>

@@ -1,4 +1,5 @@
 pub mod Algs
+pub mod AlgNames
 pub mod CodeLengths
 pub mod Hmac
 pub mod Codes

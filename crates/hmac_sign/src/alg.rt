@@ -3,6 +3,7 @@ ghost use Rattle.std.specs.Prelude.{◌≡◌, ◌≢◌, Some, IfOk, IfSome, If
 ghost use Rattle.hmac_sign.specs.Algs.{algs, alg_text, alg_of_text as alg_of_text_by, block_length, key_least};
 ghost use Rattle.hmac_sign.specs.declared.alg.Alg.{Alg};
 
+use crate::AlgName;
 use sd_outside::{NoMemory, TextBox, TextList};
 use std::alloc::Global;
 
@@ -27,6 +28,13 @@ impl Alg {
             Alg::Hs384 => "HS384",
             Alg::Hs512 => "HS512",
         }
+    }
+
+    /// Its name, as a signer tells it.
+    pub fn alg_name(self) -> AlgName<'static>
+        ensures { result ≡ alg_text self }
+    {
+        AlgName::of(self)
     }
 
     /// The fewest bytes of a key, as many as the hash has (RFC 7518 section 3.2).

@@ -7,7 +7,7 @@ ghost use Rattle.hmac_sign.specs.FailState.{after_call};
 ghost use Rattle.hmac_sign.specs.Hmac.{IsGood, hs256_key};
 ghost use Rattle.hmac_sign.specs.Agreement.{IsSameSigner};
 
-use crate::{Alg, Hs256Key, SignError, Signatures, Signer};
+use crate::{Alg, AlgName, Hs256Key, SignError, Signatures, Signer};
 use sd_outside::ByteBox;
 use std::alloc::Global;
 use std::marker::Model;
@@ -66,7 +66,7 @@ impl Signer for FailSigner {
 
     ghost alg_name_of = { λ _. alg_text Hs256 };
 
-    fn alg_name(&self) -> &str {
+    fn alg_name(&self) -> AlgName<'_> {
         self.key.alg_name()
     }
 

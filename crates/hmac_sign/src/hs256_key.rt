@@ -6,7 +6,7 @@ ghost use Rattle.hmac_sign.specs.Hmac.{key_block, hs256_key, mac as mac_of, IsGo
 ghost use Rattle.hmac_sign.specs.declared.alg.Alg.TheVariants.{Hs256};
 
 use crate::keyed_hash::code_32;
-use crate::{Alg, Checker, HsKey, KeyShort, SignError, Signatures, Signer};
+use crate::{Alg, AlgName, Checker, HsKey, KeyShort, SignError, Signatures, Signer};
 use sd_outside::ByteBox;
 use std::alloc::Global;
 use std::marker::Model;
@@ -78,8 +78,8 @@ impl Signer for Hs256Key {
 
     ghost alg_name_of = { λ _. alg_text Hs256 };
 
-    fn alg_name(&self) -> &str {
-        Alg::Hs256.name()
+    fn alg_name(&self) -> AlgName<'_> {
+        Alg::Hs256.alg_name()
     }
 
     fn sign(&mut self, alloc: Global, head: &str, body: &str) -> Result<ByteBox, SignError> {

@@ -10,7 +10,7 @@ use crate::hasher::Hasher;
 use crate::keyed_hash::{
     BLOCK_MAX, INNER_PAD, OUTER_PAD, are_equal, code_over, key_block, padded_hasher,
 };
-use crate::{Alg, Checker, Mac, SignError, Signatures, Signer};
+use crate::{Alg, AlgName, Checker, Mac, SignError, Signatures, Signer};
 use b64url_text::{DecodeError, decode};
 use sd_outside::{ByteBox, NoMemory};
 use std::alloc::Global;
@@ -143,8 +143,8 @@ impl Signer for HsKey {
 
     ghost alg_name_of = { λ key. alg_text key.alg };
 
-    fn alg_name(&self) -> &str {
-        self.alg.name()
+    fn alg_name(&self) -> AlgName<'_> {
+        self.alg.alg_name()
     }
 
     fn sign(&mut self, alloc: Global, head: &str, body: &str) -> Result<ByteBox, SignError> {

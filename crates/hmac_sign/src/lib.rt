@@ -7,6 +7,7 @@
 #![tactic(auto)]
 
 mod alg;
+mod alg_name;
 mod begun;
 mod fail_signer;
 mod file_keys;
@@ -22,6 +23,7 @@ mod sign;
 mod unsigned_jwt;
 
 pub use alg::{Alg, alg_named, alg_names};
+pub use alg_name::{AlgName, AlgNameBox};
 pub use fail_signer::FailSigner;
 pub use file_keys::{key_bytes_member, key_bytes_of, key_of, keys_member};
 pub use hs_key::{HsKey, KeyShort};

@@ -6,6 +6,7 @@ ghost use Rattle.hmac_sign.specs.Signatures.{Meaning};
 ghost use Rattle.hmac_sign.specs.Agreement.{IsSameSigner};
 ghost use Rattle.hmac_sign.specs.declared.sign.SignError.TheVariants.{Memory};
 
+use crate::AlgName;
 use sd_outside::{ByteBox, NoMemory};
 use std::alloc::Global;
 
@@ -41,8 +42,8 @@ pub trait Signer: Signatures {
 
     /// The name of the algorithm of the signatures, as the `alg` of a JWS
     /// header has it (RFC 7515 section 4.1.1).
-    fn alg_name(&self) -> &str
-        ensures { result.now ≡ alg_name_of self.now };
+    fn alg_name(&self) -> AlgName<'_>
+        ensures { result ≡ alg_name_of self.now };
 
     /// A signature of the head and the body.
     fn sign(&mut self, alloc: Global, head: &str, body: &str) -> Result<ByteBox, SignError>

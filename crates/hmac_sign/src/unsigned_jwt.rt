@@ -1,5 +1,5 @@
 // A JWT that has no signature yet.
-ghost use Rattle.std.specs.Prelude.{◌≡◌, ◌<◌, ◌++◌, codes, IfOk, IsErrOf};
+ghost use Rattle.std.specs.Prelude.{◌≡◌, ◌<◌, ◌++◌, ◌↔◌, [], codes, length, IfOk, OnOk, IsErrOf};
 ghost use Rattle.sd_outside.specs.Causes.{Rose};
 ghost use Rattle.hmac_sign.specs.Agreement.{IsSameSigner};
 ghost use Rattle.hmac_sign.specs.SignedJwt.{IsSignedWith, IsSignedBy};
@@ -31,10 +31,16 @@ impl UnsignedJwt {
         Ok(TextBox::from_string(text))
     }
 
-    /// The JWT with these bytes as its signature, whoever made them.
-    pub fn with_signature(self, alloc: Global, signature: &[u8]) -> Result<JwtParts, NoMemory>
-        ensures { IfOk result (IsSignedWith self signature.now) }
+    /// The JWT with these bytes as its signature, whoever made them. Where there are none, nobody
+    /// signed: the answer is [`SignError::Failed`].
+    pub fn with_signature(self, alloc: Global, signature: &[u8]) -> Result<JwtParts, SignError>
+        ensures signed { IfOk result (IsSignedWith self signature.now) }
+        ensures some { OnOk result (0 < length signature.now) }
+        ensures nobody { IsErrOf result SignError.Failed ↔ (signature.now ≡ []) }
     {
+        if signature.is_empty() {
+            return Err(SignError::Failed);
+        }
         let signature = encode(alloc, signature)?;
         Ok(JwtParts {
             protected: self.protected,
@@ -53,6 +59,6 @@ impl UnsignedJwt {
         ensures kept { IsSameSigner S.good S.alg_name_of S.faults signer.old signer.new }
     {
         let signature = signer.sign(alloc, self.protected.as_str(), self.payload.as_str())?;
-        Ok(self.with_signature(alloc, signature.bytes())?)
+        self.with_signature(alloc, signature.bytes())
     }
 }

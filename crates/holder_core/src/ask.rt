@@ -1,6 +1,6 @@
 // What is asked of a holder, with keys or without.
 use claim_tree::PathList;
-use hmac_sign::KeySet;
+use hmac_sign::{AlgNameBox, KeySet};
 use sd_outside::{TextBox, TextList};
 
 /// What is asked of a holder.
@@ -42,7 +42,7 @@ pub struct CallerAsk {
 #[derive(Drop)]
 pub struct CallerBinding {
     /// The algorithm of the signature, by its name in RFC 7518 section 3.1 or RFC 8037 section 3.1.
-    pub alg: TextBox,
+    pub alg: AlgNameBox,
     /// The name of the holder's key, where the claim `cnf` has to tell one (RFC
     /// 7800 section 3.4). Where the claim has the key itself, or its digest,
     /// there is none, and the caller finds its key by the payload.

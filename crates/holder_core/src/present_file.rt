@@ -14,7 +14,7 @@ use crate::{Ask, BindingAsk, CallerAsk, CallerBinding};
 use claim_tree::{PathList, Tree, TreeMap};
 use compact_form::FILE_MAX;
 use file_members::{Field, FileFault, pointer_list_member, read_members, text_list_member};
-use hmac_sign::{Hs256Key, key_of, keys_member};
+use hmac_sign::{AlgName, AlgNameBox, Hs256Key, key_of, keys_member};
 use key_binding::short_text_in;
 use sd_outside::{NoMemory, TextBox, TextList};
 use std::alloc::Global;
@@ -159,7 +159,7 @@ fn algs_member(alloc: Global, members: &TreeMap) -> Result<TextList, FileFault>
 }
 
 // The name of an algorithm: a text, but neither the empty one nor `none`.
-fn alg_in(alloc: Global, members: &TreeMap) -> Result<Option<TextBox>, NoMemory>
+fn alg_in(alloc: Global, members: &TreeMap) -> Result<Option<AlgNameBox>, NoMemory>
     ensures alg { IfOk result
         (λ alg. IfSome alg (Says IsAlgName (member_named members.now (codes "alg")))) }
     ensures none { IfOk result (λ alg. IfNone alg
@@ -168,9 +168,9 @@ fn alg_in(alloc: Global, members: &TreeMap) -> Result<Option<TextBox>, NoMemory>
     let Some(Tree::Text(text)) = members.get("alg") else {
         return Ok(None);
     };
-    match text.as_str() {
-        "" | "none" => Ok(None),
-        name => Ok(Some(TextBox::make(alloc, name)?)),
+    match AlgName::new(text.as_str()) {
+        Some(name) => Ok(Some(AlgNameBox::make(alloc, &name)?)),
+        None => Ok(None),
     }
 }
 

@@ -134,7 +134,8 @@ fn present_token<S: Signer, F: Fn(&Path) -> bool>(
         Err(NoMemory) => return Err(PresentError::Memory),
     };
     let asked = Asked::by_keys(ask, &algs);
-    match unsigned_parts(alloc, token, &asked, signer.alg_name(), consent, now, steps) {
+    let alg = signer.alg_name();
+    match unsigned_parts(alloc, token, &asked, alg.as_str(), consent, now, steps) {
         Ok(Unsigned::Alone(parts)) => Ok(parts),
         Ok(Unsigned::ToSign(unsigned)) => unsigned.sign(alloc, signer),
         Err(error) => Err(error),

@@ -7,6 +7,7 @@ ghost use Rattle.compact_form.specs.Compact.{AreWords, compact as compact_text};
 ghost use Rattle.refusals.specs.Lowest.{IsLowest};
 ghost use Rattle.compact_form.specs.declared.parts.Parts.{Parts as SeenParts};
 ghost use Rattle.hmac_sign.specs.Agreement.{IsSameSigner};
+ghost use Rattle.hmac_sign.specs.AlgNames.{IsNoAlgName};
 ghost use Rattle.json_form.specs.Token.{IsToken};
 ghost use Rattle.json_form.specs.declared.token.Token.{Token as SeenToken};
 ghost use Rattle.verifier_core.specs.Verdict.{TokenFails};
@@ -26,7 +27,7 @@ use claim_tree::{Path, Tree};
 use compact_form::{COMPACT_MAX, JwtParts, Parts, hashed_text, is_longer_than};
 use digest_index::Steps;
 use disclosure::HashAlg;
-use hmac_sign::{SignError, Signer, UnsignedJwt};
+use hmac_sign::{AlgName, SignError, Signer, UnsignedJwt};
 use json_form::TokenView;
 use key_binding::{SignatureAnswer, unsigned_binding};
 use sd_outside::NoMemory;
@@ -103,12 +104,10 @@ impl UnsignedPresentation {
         ensures short { IfOk result IsShort }
         ensures refused { IfErr result (IsUnsentWith self signature.now) }
     {
-        if signature.is_empty() {
-            return Err(PresentError::SignFailed);
-        }
         let token = match self.binding.with_signature(alloc, signature) {
             Ok(token) => token,
-            Err(NoMemory) => return Err(PresentError::Memory),
+            Err(SignError::Memory) => return Err(PresentError::Memory),
+            Err(SignError::Failed) => return Err(PresentError::SignFailed),
         };
         parts_with_binding(self.parts, token)
     }
@@ -148,6 +147,7 @@ fn unsigned_of(
 ) -> Result<Unsigned, PresentError>
     requires words { AreWords unbound.parts }
     requires shown { is_some binding ≡ true → is_some unbound.payload ≡ true }
+    requires a_name { is_some binding ≡ true → IsNoAlgName alg.now → ⊥ }
     ensures unsigned { IfOk result
         (IsUnsignedOf (option_map binding_seen binding.entry) alg.now hash now unbound) }
     ensures words { IfOk result (λ unsigned. OnUnsigned unsigned AreWords AreUnsignedWords) }
@@ -167,7 +167,10 @@ fn unsigned_of(
     };
     let hashed = hashed_text(alloc, &parts)?;
     let (aud, nonce) = (ask.aud.as_str(), ask.nonce.as_str());
-    let binding = unsigned_binding(alloc, alg, hash, hashed.as_str(), aud, nonce, now)?;
+    let Some(alg) = AlgName::new(alg) else {
+        unreachable!()
+    };
+    let binding = unsigned_binding(alloc, &alg, hash, hashed.as_str(), aud, nonce, now)?;
     Ok(Unsigned::ToSign(UnsignedPresentation {
         parts,
         binding,
@@ -188,6 +191,7 @@ pub(crate) fn unsigned_parts<F: Fn(&Path) -> bool>(
 ) -> Result<Unsigned, PresentError>
     requires unbound { IsUnboundToken token.now }
     requires callable { F.IsAlwaysCallable consent.now }
+    requires a_name { is_some asked.now.binding ≡ true → IsNoAlgName alg.now → ⊥ }
     ensures unsigned { IfOk result (IsUnsigned F.Fn consent.now token.now asked.now alg.now now) }
     ensures words { IfOk result (λ unsigned. OnUnsigned unsigned AreWords AreUnsignedWords) }
     ensures short { IfOk result (λ unsigned. OnUnsigned unsigned IsShort (λ _. Unit)) }
@@ -244,10 +248,11 @@ fn ask_or_refuse(
 // The name of the algorithm of the holder's signature. Where none is to be
 // made, it is not looked at.
 fn holder_alg(ask: &CallerAsk) -> &str
-    ensures { result.now ≡ alg_asked ask.now.binding }
+    ensures same { result.now ≡ alg_asked ask.now.binding }
+    ensures a_name { is_some ask.now.binding ≡ true → IsNoAlgName result.now → ⊥ }
 {
     match &ask.binding {
-        Some(binding) => binding.alg.as_str(),
+        Some(binding) => binding.alg.name().as_str(),
         None => "",
     }
 }

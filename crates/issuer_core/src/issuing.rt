@@ -23,7 +23,7 @@ ghost use Rattle.sd_outside.specs.Lists.{Repeats, AtNone};
 use crate::laying::{Laid, lay_order};
 use crate::{IssueError, Order, UnsignedToken, first_clash, judged_places};
 use compact_form::Parts;
-use hmac_sign::{Signer, UnsignedJwt};
+use hmac_sign::{AlgName, Signer, UnsignedJwt};
 use jws_part::{Header, write_body, write_header};
 use sd_outside::{NoMemory, TextBox, TextList, copy_text};
 use std::alloc::Global;
@@ -94,7 +94,7 @@ pub fn issue_owned<S: Signer>(
     // what stays
     ensures kept { IsSameSigner S.good S.alg_name_of S.faults signer.old signer.new }
 {
-    let token = match to_sign(alloc, order, seed, signer.alg_name()) {
+    let token = match to_sign(alloc, order, seed, &signer.alg_name()) {
         Ok(token) => token,
         Err(error) => return Err(error),
     };
@@ -110,7 +110,7 @@ pub fn to_sign(
     alloc: Global,
     order: Order,
     seed: &[u8; 32],
-    alg: &str,
+    alg: &AlgName<'_>,
 ) -> Result<UnsignedToken, IssueError>
     requires depth { depth_of (tree_of order.payload) ≤ json_depth_max }
     ensures to_sign { IfOk result (IsToSign (maker_of seed.now) (order_of order) alg.now) }
@@ -136,11 +136,11 @@ pub fn to_sign(
 
 /// The header of a token that is issued for the order, with signatures by the
 /// algorithm of this name.
-pub fn order_header(alloc: Global, order: &Order, alg: &str) -> Result<Header, NoMemory>
+pub fn order_header(alloc: Global, order: &Order, alg: &AlgName<'_>) -> Result<Header, NoMemory>
     ensures { IfOk result (λ header. header ≡ header_of alg.now (order_of order.now)) }
 {
     Ok(Header {
-        alg: TextBox::make(alloc, alg)?,
+        alg: TextBox::make(alloc, alg.as_str())?,
         kid: copy_text(alloc, &order.kid)?,
         typ: copy_text(alloc, &order.typ)?,
     })

@@ -32,10 +32,10 @@ impl UnsignedToken {
         ensures short { IfOk result (λ parts. length (compact parts) ≤ issue_max) }
         ensures refused { IfErr result (IsUnmadeWith self signature.now) }
     {
-        if signature.is_empty() {
-            return Err(IssueError::SignFailed);
-        }
-        let signed = self.jwt.with_signature(alloc, signature)?;
+        let signed = match self.jwt.with_signature(alloc, signature) {
+            Ok(signed) => signed,
+            Err(error) => return Err(IssueError::from(error)),
+        };
         within_limit(token_of(signed, self.disclosures))
     }
 

@@ -1,7 +1,8 @@
 -- What a caller says of signatures that it checks itself, and which algorithms it takes.
-use Rattle.std.specs.Prelude.{◌≡◌, ℕ, ◌⊎◌, List, [], Option, Some, codes}
+use Rattle.std.specs.Prelude.{◌≡◌, ℕ, ◌⊎◌, List, Option, Some}
 use Rattle.b64url_text.specs.Base64url.{Decodes}
 use Rattle.claim_tree.specs.Tree.{Text}
+use Rattle.hmac_sign.specs.AlgNames.{IsNoAlgName}
 use Rattle.sd_outside.specs.Lists.{In}
 use Rattle.key_binding.specs.declared.caller.SignatureAnswer.{SignatureAnswer}
 
@@ -10,14 +11,10 @@ pub record Caller : Type 0 where
   pub algs : List Text
   pub answer : Option SignatureAnswer
 
--- no name, or `none`
-abbrev pub IsNeverTaken : Text → Type 0
-IsNeverTaken alg = (alg ≡ []) ⊎ (alg ≡ codes "none")
-
 -- signatures of the algorithm are not taken; one of a shared key is, just where
 -- the caller's own list names it (RFC 8725 section 3.1)
 abbrev pub IsAlgUntaken : Caller → Text → Type 0
-IsAlgUntaken caller alg = IsNeverTaken alg ⊎ (In alg caller.algs → ⊥)
+IsAlgUntaken caller alg = IsNoAlgName alg ⊎ (In alg caller.algs → ⊥)
 
 -- no bytes have this text as their base64url text
 abbrev pub IsNoSignature : Text → Type 0

@@ -1,9 +1,10 @@
 // What a caller says of signatures that it checks itself.
 ghost use Rattle.std.specs.Prelude.{◌↔◌, IsTrue, IfOk};
-ghost use Rattle.key_binding.specs.Caller.{IsNeverTaken, IsAlgUntaken, IsUnknownTo, IsBadTo};
+ghost use Rattle.key_binding.specs.Caller.{IsAlgUntaken, IsUnknownTo, IsBadTo};
 ghost use Rattle.key_binding.specs.CallerSeen.{Tells, caller_of};
 
 use b64url_text::{DecodeError, decode};
+use hmac_sign::AlgName;
 use sd_outside::{NoMemory, TextList};
 use std::alloc::Global;
 
@@ -32,19 +33,12 @@ pub struct Caller<'a> {
     pub answer: Option<SignatureAnswer>,
 }
 
-// Whether signatures of this algorithm are never taken.
-fn is_never_taken(alg: &str) -> bool
-    ensures { IsTrue result ↔ IsNeverTaken alg.now }
-{
-    alg.is_empty() || alg == "none"
-}
-
 impl Caller<'_> {
     /// Whether it does not take signatures of the algorithm of this name.
     pub fn refuses(self, alg: &str) -> bool
         ensures { IsTrue result ↔ IsAlgUntaken (caller_of self.entry) alg.now }
     {
-        is_never_taken(alg) || !self.algs.contains(alg)
+        AlgName::new(alg).is_none() || !self.algs.contains(alg)
     }
 
     /// What it says of the signature of this base64url text. Where it says nothing, or the text is

@@ -16,16 +16,16 @@ use crate::BindError;
 use claim_tree::{Tree, TreeMap, Whole};
 use compact_form::JwtParts;
 use disclosure::{HashAlg, digest};
-use hmac_sign::{Signer, UnsignedJwt};
+use hmac_sign::{AlgName, Signer, UnsignedJwt};
 use jws_part::{Header, write_body, write_header};
 use sd_outside::{NoMemory, TextBox};
 use std::alloc::Global;
 
-fn header(alloc: Global, alg: &str) -> Result<Header, NoMemory>
+fn header(alloc: Global, alg: &AlgName<'_>) -> Result<Header, NoMemory>
     ensures { IfOk result (λ header. header ≡ binding_header alg.now) }
 {
     Ok(Header {
-        alg: TextBox::make(alloc, alg)?,
+        alg: TextBox::make(alloc, alg.as_str())?,
         kid: None,
         typ: Some(TextBox::make(alloc, "kb+jwt")?),
     })
@@ -45,7 +45,7 @@ fn put_text(alloc: Global, members: &mut TreeMap, name: &str, text: &str) -> Res
 }
 
 // The protected header, written.
-fn header_part(alloc: Global, alg: &str) -> Result<TextBox, NoMemory>
+fn header_part(alloc: Global, alg: &AlgName<'_>) -> Result<TextBox, NoMemory>
     ensures text { IfOk result
         (λ part. part ≡ b64 (json_text (object (header_members (binding_header alg.now))))) }
     ensures back { IfOk result (λ part. IsHeader part no_members (binding_header alg.now)) }
@@ -88,7 +88,7 @@ fn payload_part(
 /// with, up to and with the last tilde, and `hash` the algorithm of that token's digests.
 pub fn unsigned_binding(
     alloc: Global,
-    alg: &str,
+    alg: &AlgName<'_>,
     hash: HashAlg,
     hashed: &str,
     aud: &str,
@@ -129,7 +129,8 @@ pub fn bind<S: Signer>(
     // what stays
     ensures kept { IsSameSigner S.good S.alg_name_of S.faults signer.old signer.new }
 {
-    let unsigned = match unsigned_binding(alloc, signer.alg_name(), hash, hashed, aud, nonce, iat) {
+    let alg = signer.alg_name();
+    let unsigned = match unsigned_binding(alloc, &alg, hash, hashed, aud, nonce, iat) {
         Ok(unsigned) => unsigned,
         Err(NoMemory) => return Err(BindError::Memory),
     };

@@ -3,7 +3,7 @@ use crate::tell::{expect_told, jwt_text};
 use claim_tree::{Tree, read};
 use compact_form::JwtParts;
 use disclosure::HashAlg::Sha256;
-use hmac_sign::{FailSigner, Hs256Key, KeySet};
+use hmac_sign::{AlgName, FailSigner, Hs256Key, KeySet};
 use key_binding::{
     BindError, BindingError, BindingPolicy, bind, check_binding, holder_kid, unsigned_binding,
 };
@@ -45,7 +45,8 @@ fn what_is_bound_is_written(rt: HostRuntime) {
 #[test]
 fn what_another_is_to_sign_is_written(rt: HostRuntime) {
     let alloc = rt.alloc();
-    let unsigned = unsigned_binding(alloc, "ES256", Sha256, HASHED, "https://v", NONCE, 1000);
+    let alg = AlgName::new("ES256").expect(&rt, "a name");
+    let unsigned = unsigned_binding(alloc, &alg, Sha256, HASHED, "https://v", NONCE, 1000);
     let text = unsigned
         .expect(&rt, "memory")
         .text(alloc)

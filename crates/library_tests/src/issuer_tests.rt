@@ -10,7 +10,7 @@ use crate::tell::{behind, expect_told, joined, jwt_text, signed_text};
 use claim_tree::Path;
 use compact_form::Parts;
 use file_members::{Field, FileFault};
-use hmac_sign::{Alg, HsKey, Signer};
+use hmac_sign::{Alg, AlgName, HsKey, Signer};
 use issuer_core::{
     Decoy, DecoyList, IssueError, Order, UnsignedToken, first_clash, issue, issue_owned, judge,
     read_order, read_unsigned_order, refusal_line, to_sign,
@@ -143,7 +143,8 @@ fn signed_by_key(rt: &impl Abort, alloc: Global) -> String {
 }
 
 fn to_sign_by(rt: &impl Abort, alloc: Global, alg: &str) -> UnsignedToken {
-    to_sign(alloc, order_of(rt, alloc, UNKEYED), &SEED, alg).expect(rt, "to be signed")
+    let alg = AlgName::new(alg).expect(rt, "a name");
+    to_sign(alloc, order_of(rt, alloc, UNKEYED), &SEED, &alg).expect(rt, "to be signed")
 }
 
 // The same, signed apart.
@@ -191,7 +192,8 @@ fn a_file_of_another_order_is_not_read(rt: HostRuntime) {
 fn a_place_that_is_not_there_is_named(rt: HostRuntime) {
     let order = order_of(&rt, rt.alloc(), r#"{"payload":{"a":1},"hide":["/a","/x"]}"#);
     assert!(rt; matches!(judge(rt.alloc(), &order), Err(IssueError::NoSuchPlace(1))));
-    let told = to_sign(rt.alloc(), order, &SEED, "ES256");
+    let alg = AlgName::new("ES256").expect(&rt, "a name");
+    let told = to_sign(rt.alloc(), order, &SEED, &alg);
     assert!(rt; matches!(told, Err(IssueError::NoSuchPlace(1))));
 }
 

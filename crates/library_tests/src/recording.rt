@@ -3,7 +3,7 @@ ghost use Rattle.hmac_sign.specs.Algs.{alg_text};
 ghost use Rattle.hmac_sign.specs.declared.alg.Alg.TheVariants.{Hs256};
 
 use claim_tree::Path;
-use hmac_sign::{Hs256Key, SignError, Signatures, Signer};
+use hmac_sign::{AlgName, Hs256Key, SignError, Signatures, Signer};
 use sd_outside::ByteBox;
 use std::alloc::Global;
 use std::cell::Cell;
@@ -41,7 +41,7 @@ impl Signer for Recorder {
 
     ghost alg_name_of = { λ _. alg_text Hs256 };
 
-    fn alg_name(&self) -> &str {
+    fn alg_name(&self) -> AlgName<'_> {
         self.key.alg_name()
     }
 

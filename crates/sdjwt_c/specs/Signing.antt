@@ -2,6 +2,7 @@
 use Rattle.std.specs.Prelude.{◌≡◌, ◌≢◌, ◌<◌, ◌≤◌, ◌⊎◌, ◌++◌, ℕ, List, [], codes, length, take}
 use Rattle.std.specs.Str.{IsUtf8}
 use Rattle.file_members.specs.declared.file_fault.FileFault.{FileFault}
+use Rattle.hmac_sign.specs.AlgNames.{IsNoAlgName}
 use Rattle.cli_parts.specs.Lines.{line, unreadable_line, short_seed}
 use Rattle.cli_parts.specs.Replies.{Reply, Replies}
 use Rattle.compact_form.specs.Compact.{compact}
@@ -17,10 +18,9 @@ use Rattle.issuer_core.specs.ToSign.{IsToSign, IsNotToSign, IsTokenWith, IsUnmad
 use Rattle.issuer_core.specs.UnsignedOrder.{IsUnsignedOrderFile, IsUnsignedOrderRefused}
 use Rattle.sd_outside.specs.Limits.{seed_len}
 
--- the bytes are no name of an algorithm: no text, the empty one, or that of the
--- tokens that nobody signs
-abbrev pub IsNoAlgName : List ℕ → Type 0
-IsNoAlgName bytes = (IsUtf8 bytes → ⊥) ⊎ ((bytes ≡ []) ⊎ (bytes ≡ codes "none"))
+-- the bytes are no name of an algorithm: no text, or one that nobody signs by
+abbrev pub AreNoAlgName : List ℕ → Type 0
+AreNoAlgName bytes = (IsUtf8 bytes → ⊥) ⊎ IsNoAlgName bytes
 
 -- what one file asks for, and the seed with which the other begins
 pub record IsAskedApart (order_file seed_file : List ℕ) (order : Order) (seed : List ℕ)

@@ -15,24 +15,24 @@ ghost use Rattle.issuer_core.specs.Seed.{maker_of};
 ghost use Rattle.issuer_core.specs.ToSign.{IsToSign, AreUnsignedWords};
 ghost use Rattle.issuer_core.specs.declared.errors.IssueError.TheVariants.{Memory};
 ghost use Rattle.sdjwt_c.specs.Handed.{HandsBy};
-ghost use Rattle.sdjwt_c.specs.Signing.{IsNoAlgName, IsUnsignedFor, TellsNotToSign, RefusesToSign, HasNoUnsignedOrder, GivesSignedText, IsTokenLine, IsOverlongLine, GivesToken, RefusesToken, AsksToSign, SignsToken};
+ghost use Rattle.sdjwt_c.specs.Signing.{AreNoAlgName, IsUnsignedFor, TellsNotToSign, RefusesToSign, HasNoUnsignedOrder, GivesSignedText, IsTokenLine, IsOverlongLine, GivesToken, RefusesToken, AsksToSign, SignsToken};
 
 use crate::answer::{hand, leave};
 use cli_parts::{Stop, as_line, readable, short_seed_line};
 use compact_form::print;
+use hmac_sign::AlgName;
 use issuer_core::{IssueError, Order, UnsignedToken, read_unsigned_order, refusal_line, to_sign};
 use sd_outside::{NoMemory, Status};
 use std::alloc::Global;
 
 // The name of an algorithm: a text, but neither the empty one nor `none`.
-fn alg_name(bytes: &[u8]) -> Option<&str>
-    ensures named { IfSome result (λ name. name.now ≡ bytes.now) }
-    ensures a_name { IfSome result (λ _. IsNoAlgName bytes.now → ⊥) }
-    ensures none { result ≡ None → IsNoAlgName bytes.now }
+fn alg_name(bytes: &[u8]) -> Option<AlgName<'_>>
+    ensures named { IfSome result (λ name. name ≡ bytes.now) }
+    ensures a_name { IfSome result (λ _. AreNoAlgName bytes.now → ⊥) }
+    ensures none { result ≡ None → AreNoAlgName bytes.now }
 {
     match str::from_utf8(bytes) {
-        Ok("" | "none") => None,
-        Ok(name) => Some(name),
+        Ok(name) => AlgName::new(name),
         Err(_) => None,
     }
 }
@@ -63,7 +63,7 @@ fn refused_line(alloc: Global, error: &IssueError) -> Result<String, NoMemory>
 fn unsigned_for(
     alloc: Global,
     order: Order,
-    alg: &str,
+    alg: &AlgName<'_>,
     seed: &[u8; 32],
 ) -> Result<UnsignedToken, Stop>
     requires depth { depth (tree_of order.payload) ≤ json_depth_max }
@@ -81,7 +81,12 @@ fn unsigned_for(
 }
 
 // What is to be signed for an order file and a seed file.
-fn unsigned(alloc: Global, order: &[u8], alg: &str, seed: &[u8]) -> Result<UnsignedToken, Stop>
+fn unsigned(
+    alloc: Global,
+    order: &[u8],
+    alg: &AlgName<'_>,
+    seed: &[u8],
+) -> Result<UnsignedToken, Stop>
     ensures to_sign { IfOk result (IsUnsignedFor order.now alg.now seed.now) }
     ensures words { IfOk result AreUnsignedWords }
     ensures refuses { IfErr result (λ stop. OnRefused stop (RefusesToSign order.now seed.now)) }
@@ -97,7 +102,7 @@ fn unsigned(alloc: Global, order: &[u8], alg: &str, seed: &[u8]) -> Result<Unsig
 }
 
 // The text that is to be signed for an order.
-fn asked_text(alloc: Global, order: &[u8], alg: &str, seed: &[u8]) -> Result<String, Stop>
+fn asked_text(alloc: Global, order: &[u8], alg: &AlgName<'_>, seed: &[u8]) -> Result<String, Stop>
     ensures asks { IfOk result
         (λ text. GivesSignedText order.now alg.now seed.now (string_bytes text)) }
     ensures refuses { IfErr result (λ stop. OnRefused stop (RefusesToSign order.now seed.now)) }
@@ -128,7 +133,7 @@ fn token_line(alloc: Global, token: UnsignedToken, signature: &[u8]) -> Result<S
 fn signed_token(
     alloc: Global,
     order: &[u8],
-    alg: &str,
+    alg: &AlgName<'_>,
     seed: &[u8],
     signature: &[u8],
 ) -> Result<String, Stop>
@@ -157,11 +162,11 @@ pub extern "C" fn sdjwt_issue_ask(
     room: &mut [u8],
     len: &mut usize,
 ) -> u8
-    ensures { HandsBy (IsNoAlgName alg.now) (AsksToSign order.now alg.now seed.now) room.old
+    ensures { HandsBy (AreNoAlgName alg.now) (AsksToSign order.now alg.now seed.now) room.old
         room.new len.new result }
 {
     match alg_name(alg) {
-        Some(alg) => hand(asked_text(alloc, order, alg, seed), room, len).number(),
+        Some(alg) => hand(asked_text(alloc, order, &alg, seed), room, len).number(),
         None => leave(Status::Usage, len).number(),
     }
 }
@@ -177,14 +182,14 @@ pub extern "C" fn sdjwt_issue_sign(
     room: &mut [u8],
     len: &mut usize,
 ) -> u8
-    ensures { HandsBy ((signature.now ≡ []) ⊎ IsNoAlgName alg.now)
+    ensures { HandsBy ((signature.now ≡ []) ⊎ AreNoAlgName alg.now)
         (SignsToken order.now alg.now seed.now signature.now) room.old room.new len.new result }
 {
     if signature.is_empty() {
         return leave(Status::Usage, len).number();
     }
     match alg_name(alg) {
-        Some(alg) => hand(signed_token(alloc, order, alg, seed, signature), room, len).number(),
+        Some(alg) => hand(signed_token(alloc, order, &alg, seed, signature), room, len).number(),
         None => leave(Status::Usage, len).number(),
     }
 }

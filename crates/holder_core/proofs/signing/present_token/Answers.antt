@@ -22,7 +22,7 @@ returns-in-Err-clause-refused g c =
     let token = c.args.token.now in
     let ask = asked_by_caller c.args.ask.now c.args.answer in
     let alg = alg_asked c.args.ask.now.binding in
-    let refused = refused_as g.F.Fn c.args.consent.now token c.by_caller-asked.result ask c.by_caller-asked.ensures c.holder_alg.result.now alg c.holder_alg.ensures c.args.now c.in-Err.error c.in-Err.ensures.refused in
+    let refused = refused_as g.F.Fn c.args.consent.now token c.by_caller-asked.result ask c.by_caller-asked.ensures c.holder_alg.result.now alg c.holder_alg.ensures.same c.args.now c.in-Err.error c.in-Err.ensures.refused in
     IfErr-weaker c.ask_or_refuse.result _ _ (same_refused g.F.Fn c.args.consent.now token ask alg none_good c.args.now c.in-Err.error refused) c.ask_or_refuse.ensures.same
 
 -- ---- the look-ups
