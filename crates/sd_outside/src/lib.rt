@@ -2,8 +2,9 @@
 //!
 //! Bytes come from a [`Cabinet`], by name, or from a [`Source`], in pieces, and go to a [`Sink`].
 //! These are traits with a meaning and a count of faults, so that a layer above can be proved
-//! without knowing which one it is given. The objects in memory tell what they hold; the objects of
-//! the host tell nothing, and are the trusted edge.
+//! without knowing which one it is given. The objects in memory tell what they hold. Those of the
+//! host tell what the standard library says of their streams, and nothing of files under a name:
+//! they are the trusted edge.
 #![tactic(auto)]
 
 mod byte_box;
