@@ -1,5 +1,6 @@
 // How a run ends: its answer, or the line that tells why there is none.
-ghost use Rattle.std.specs.Prelude.{◌≡◌, ◌≤◌, IfOk, string_bytes};
+ghost use Rattle.std.specs.Prelude.{◌≡◌, ◌<◌, ◌≤◌, IfOk, string_bytes};
+ghost use Rattle.sd_outside.specs.declared.status.Status.TheVariants as status;
 ghost use Rattle.cli_parts.specs.Finishing.{Finishes, TellsStop, streams};
 ghost use Rattle.cli_parts.specs.Lines.{unread_text};
 ghost use Rattle.cli_parts.specs.Outside.{stream, Tells};
@@ -30,6 +31,7 @@ fn unread_line(alloc: Global, word: usize) -> Result<String, NoMemory>
 // Tells the line of a file that could not be read. Those of the first two words take no memory.
 fn tell_unread<E: Sink>(alloc: Global, word: usize, err: &mut E) -> Status
     ensures told { TellsStop (Unread word) (stream E.Sink err.old) (stream E.Sink err.new) result }
+    ensures no_memory { word < 2 → result ≡ status.Unread }
     ensures later { E.faults err.old ≤ E.faults err.new }
 {
     match word {

@@ -7,12 +7,12 @@ use Rattle.cli_parts.specs.Stops.{OnRefused, OnUnreadable}
 use Rattle.cli_parts.specs.Telling.{TellsFileFault}
 use Rattle.cli_parts.specs.declared.stop.Stop.{Stop}
 use Rattle.cli_parts.specs.declared.stop.Stop.TheVariants as stop
-use Rattle.issuer_core.specs.Order.{Order, order_of}
+use Rattle.issuer_core.specs.Order.{order_of}
 use Rattle.issuer_core.specs.UnsignedOrder.{IsUnsignedOrderFile, IsUnsignedOrderRefused}
 use Rattle.issuer_core.specs.declared.order.Order as code
 use Rattle.issuer_core.specs.declared.unsigned_token.UnsignedToken.{UnsignedToken}
 use Rattle.sd_outside.specs.Limits.{seed_len}
-use Rattle.sdjwt_c.specs.Signing.{IsAskedApart, IsUnsignedFor, TellsNotToSign, RefusesToSign, HasNoUnsignedOrder, no_order, IsOverlongLine, RefusesToken}
+use Rattle.sdjwt_c.specs.Signing.{IsAskedApart, IsUnsignedFor, RefusesToSign, HasNoUnsignedOrder, no_order, IsOverlongLine, RefusesToken}
 
 pub is_asked : (order_file seed_file seed : List ℕ) (said : code.Order) → IsUnsignedOrderFile order_file said → IsFirstChunk seed_file seed seed_len → IsAskedApart order_file seed_file (order_of said) seed
 is_asked order_file seed_file seed said is_order chunk = record { said = said; is_order = is_order; order_is = refl; enough = chunk.enough; seed_is = chunk.same }
@@ -25,13 +25,6 @@ has_no_order order_file seed_file read refused (stop.Unread word) told = tt
 has_no_order order_file seed_file read refused (stop.Unreadable text) told =
     no_order told.fault (subst (λ (r : Result code.Order FileFault). IfErr r (IsUnsignedOrderRefused order_file)) told.refused refused) told.cause told.line_is
 has_no_order order_file seed_file read refused (stop.Refused text) told = tt
-
--- the refusal of what they ask for
-pub refuses_to_sign : (order_file seed_file seed : List ℕ) (order : Order) → IsAskedApart order_file seed_file order seed → (told : Stop) → OnRefused told (TellsNotToSign seed order) → OnRefused told (RefusesToSign order_file seed_file)
-refuses_to_sign order_file seed_file seed order asked stop.Memory tells = tt
-refuses_to_sign order_file seed_file seed order asked (stop.Unread word) tells = tt
-refuses_to_sign order_file seed_file seed order asked (stop.Unreadable text) tells = tt
-refuses_to_sign order_file seed_file seed order asked (stop.Refused text) tells = record { order = order; seed = seed; asked = asked; tells = tells }
 
 -- a refusal before the signature, and one behind it
 pub refused_before : (order alg seed signature : List ℕ) (told : Stop) → OnRefused told (RefusesToSign order seed) → OnRefused told (RefusesToken order alg seed signature)
