@@ -118,12 +118,12 @@ recipes() {
 
 # documents and sources
 if has python3; then
-    holds python3 docs/core.py --check
-    holds python3 docs/contracts.py --check
-    holds python3 docs/facts.py
-    holds python3 docs/links.py
-    holds python3 docs/width.py
-    holds python3 docs/picture.py
+    holds python3 tools/core.py --check
+    holds python3 tools/contracts.py --check
+    holds python3 tools/facts.py
+    holds python3 tools/links.py
+    holds python3 tools/width.py
+    holds python3 tools/picture.py
     holds python3 vectors/write.py --check
     holds python3 python/refusals.py --check
     if has rt; then

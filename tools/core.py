@@ -1,15 +1,15 @@
 #!/usr/bin/env python3
 """Prints the trusted core: the definitions that a reader has to believe for what stands at the top.
 
-    python3 docs/core.py            for the clauses of `run`, and for the laws `presented` and `no_forgery`
-    python3 docs/core.py WORD ..    for other roots: a function, as verifier_core::verdict::verify, one of its clauses,
+    python3 tools/core.py            for the clauses of `run`, and for the laws `presented` and `no_forgery`
+    python3 tools/core.py WORD ..    for other roots: a function, as verifier_core::verdict::verify, one of its clauses,
                                     as verifier_core::verdict::verify::accepted, or a definition, as
                                     sdjwt_cli::specs::Answers::VerifyAnswers
-    python3 docs/core.py --headline for the two halves of the headline, as calls of the libraries have them
-    python3 docs/core.py --names    besides, the definitions of each module with their lines
-    python3 docs/core.py --left     besides, what is not reached of modules that are
-    python3 docs/core.py --table    the crates, as docs/contracts.py writes them into CONTRACTS.md
-    python3 docs/core.py --check    whether each module of specs/ says in its first line whether it is of the core, and
+    python3 tools/core.py --headline for the two halves of the headline, as calls of the libraries have them
+    python3 tools/core.py --names    besides, the definitions of each module with their lines
+    python3 tools/core.py --left     besides, what is not reached of modules that are
+    python3 tools/core.py --table    the crates, as tools/contracts.py writes them into CONTRACTS.md
+    python3 tools/core.py --check    whether each module of specs/ says in its first line whether it is of the core, and
                                     docs/PROVED.md has the totals; status 1 where not
 
 It takes the words of the clauses of each root, finds by the `use` lines where each word is defined, and goes on with

@@ -1,9 +1,9 @@
 #!/usr/bin/env python3
 """Writes docs/CONTRACTS.md from the sources: each crate with its public calls, its laws and its definitions, and the
-trusted core, which docs/core.py finds.
+trusted core, which tools/core.py finds.
 
-    python3 docs/contracts.py           writes the page
-    python3 docs/contracts.py --check   status 1 where the page is not what the sources say
+    python3 tools/contracts.py           writes the page
+    python3 tools/contracts.py --check   status 1 where the page is not what the sources say
 
 Of a crate it has what the first lines of its library say, and the crates on which it stands. Of a public function, of a
 trait, and of a type with functions it has the first sentence of its comment, and the definitions that its clauses cite
@@ -34,7 +34,7 @@ BESIDE = ("declared", "Limits", "View", "ListViews", "Views")
 HEAD = """\
 # Contracts, crate by crate
 
-This page is written by `python3 docs/contracts.py` from the sources, and is for looking up: which calls a crate has, by
+This page is written by `python3 tools/contracts.py` from the sources, and is for looking up: which calls a crate has, by
 which definitions their contracts speak, what its laws say, and in which module a definition stands. How to read a
 contract tells [LIBRARY.md](LIBRARY.md#how-to-read-a-contract). A crate `c` stands in `crates/c`: its code in `src/`,
 and the module `M` of its definitions in `specs/M.antt`.
@@ -49,7 +49,7 @@ with their cases, which their comments in the code explain.
 CORE = """\
 ## The trusted core
 
-The definitions that have to be believed for the promises of the programs, as `docs/core.py` finds them; how it does,
+The definitions that have to be believed for the promises of the programs, as `tools/core.py` finds them; how it does,
 and what they are, says [PROVED.md](PROVED.md#what-is-trusted). A number is that of the lines of a module that are
 reached, comments included. In reading order: the crates from the top down, and in each the modules as the citations
 come to them. "Types" are the structs, enums and traits of `src/` that definitions name.
@@ -269,7 +269,7 @@ def main():
     if sys.argv[1:] != ["--check"]:
         PAGE.write_text(written, encoding="utf-8")
     elif not PAGE.is_file() or PAGE.read_text(encoding="utf-8") != written:
-        sys.exit("docs/CONTRACTS.md is not what the sources say: run python3 docs/contracts.py")
+        sys.exit("docs/CONTRACTS.md is not what the sources say: run python3 tools/contracts.py")
     else:
         print("docs/CONTRACTS.md is what the sources say")
 

@@ -1,7 +1,7 @@
 #!/usr/bin/env python3
 """Whether the lines of src/ and specs/ fit a page: prints those of more than 100 columns, status 1 where there is one.
 
-    python3 docs/width.py
+    python3 tools/width.py
 
 What is not to be broken is let be: texts between quotes, tests, whose texts are whole tokens, and what `rt fmt` lays on
 one line, which are `use` lines, `#[tactic(..)]` and ghost fields.

@@ -1,9 +1,9 @@
 #!/usr/bin/env python3
 """Lists the public functions that nothing calls: no program, no row of a table, no test, no function of the C library.
 
-    python3 docs/callers.py           lists them
-    python3 docs/callers.py --tests   besides, those that only tests call, which are for programs of others
-    python3 docs/callers.py --check   status 1 where there is one that nothing calls
+    python3 tools/callers.py           lists them
+    python3 tools/callers.py --tests   besides, those that only tests call, which are for programs of others
+    python3 tools/callers.py --check   status 1 where there is one that nothing calls
 
 It reads bodies by their words, and knows no types. A call by a path counts for the type or the module of the path. A
 method counts for each type that has one of this name and that the file speaks of: by its name, by a field of a type of
@@ -17,7 +17,7 @@ from pathlib import Path
 
 TOP = Path(__file__).resolve().parent.parent
 TEXTS = re.compile(r'r#".*?"#|"(?:[^"\\]|\\.)*"|//[^\n]*|\'(?:[^\'\\\n]|\\.)\'', re.S)
-HEAD = re.compile(r"^( *)(pub(?:\([a-z]+\))? )?(?:const )?(?:extern \"C\" )?fn (\w+)", re.M)
+HEAD = re.compile(r"^( *)(pub(?:\([a-z]+\))? )?(?:const )?(?:extern \"C?\" )?fn (\w+)", re.M)
 IMPL = re.compile(r"^impl(?:<[^\n]*?>)? (?:(?P<trait>[\w:]+)(?:<[^\n]*>)? for )?(?P<type>\w+)(?:<[^\n]*>)? \{$", re.M)
 ALIAS = re.compile(r"^(?:pub(?:\([a-z]+\))? )?type (\w+) = (\w+)", re.M)
 TYPE = re.compile(r"^(?:pub(?:\([a-z]+\))? )?(?:struct|enum) (\w+)([^\n]*;$|.*?^\})", re.M | re.S)

@@ -1,14 +1,14 @@
 #!/usr/bin/env python3
 """Holds what documents, completions and manual pages say to the definitions of specs/, and prints what differs.
 
-    python3 docs/facts.py        status 1 where something differs
+    python3 tools/facts.py        status 1 where something differs
 
 The numbers and names of conditions and refusals are those of one table, `Condition` and `Refusal` of refusals,
 wherever a document, a script, a test or a vector says them; docs/SPECIFICATION.md, docs/REFUSALS.md, refusals.json of
 the Python package and tests/reference have each. The limits are those of `Limits` of sd_outside, the words of commands
 those of `Command`, `Forms` and the tools, and the members of files those of their tables. A name of code in a page for
 whoever reads the code (OF_CODE) stands in the code, and so does the code that LIBRARY.md and C.md show. The crates of
-whose calls LIBRARY.md has a table are handed on by sdjwt_lib. docs/links.py
+whose calls LIBRARY.md has a table are handed on by sdjwt_lib. tools/links.py
 checks the links.
 """
 import json
@@ -46,7 +46,7 @@ TABLES = [
     ("Policy", "a policy", "verifier_core", "PolicyFile", "policy_table"),
 ]
 # Where numbers of refusals are said besides pages.
-FOLDERS = ("c", "completions", "crates/sd_vectors/data", "docs", "examples", "python", "tests", "vectors")
+FOLDERS = ("c", "completions", "crates/sd_vectors/data", "docs", "examples", "python", "tests", "tools", "vectors")
 SUFFIXES = (".bash", ".c", ".h", ".json", ".md", ".py", ".rows", ".sh", ".txt", ".1", "")
 # The ranges of the sections of REFUSALS.md that manual pages say.
 RANGES = [("docs/sdjwt.1", r"\((\d+) to (\d+)\)", 3), ("docs/sdjwt_tools.1", r"(8\d) to (\d+)", 1)]
@@ -192,7 +192,7 @@ def check_members():
 
 
 def check_names():
-    folders = ("crates", "python", "tests", "c", "examples", "docs")
+    folders = ("crates", "python", "tests", "c", "examples", "docs", "tools")
     paths = [path for folder in folders for path in (TOP / folder).glob("**/*.*")]
     code = [path.read_text(encoding="utf-8") for path in paths if path.suffix in (".rt", ".antt", ".py", ".h", ".sh")]
     words = set(re.findall(r"\w+", "\n".join(code))) | {path.stem for path in paths} | KNOWN

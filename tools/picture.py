@@ -1,7 +1,7 @@
 #!/usr/bin/env python3
 """Checks that the picture of docs/ARCHITECTURE.md agrees with crates.txt.
 
-    python3 docs/picture.py        prints what differs; status 1 where something does
+    python3 tools/picture.py        prints what differs; status 1 where something does
 
 The picture has each crate but those that the text below it says are left out, and no other. A crate that another stands
 on is further down, or beside it.

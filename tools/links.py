@@ -1,7 +1,7 @@
 #!/usr/bin/env python3
 """Checks that each link in a page (*.md) of the repository leads to a file that exists, and to an anchor of that file.
 
-    python3 docs/links.py        status 1 if a link leads nowhere, or no page has a link
+    python3 tools/links.py        status 1 if a link leads nowhere, or no page has a link
 
 An anchor is a heading, as web pages of repositories name it, or `<a id="..">`. Links to the web are not followed. A
 page of docs/ may link only to a file that a release has too.
