@@ -6,8 +6,9 @@
 PROGRAM is sdjwt and TOOLS is sdjwt_tools, as prove.sh or install.sh makes them. Each list that a file may have fills
 the 16,777,216 bytes of a file, or has the most entries that are taken, and stands beside a token of 32,768 disclosures.
 A token is wide, with all of them side by side, or deep, with most of them at the end of 96 hidden steps. Each run has to
-end with status 0, and none may take more than 2 seconds of the processor. A line that is printed has the seconds of one
-run, those of the system with them, and its peak memory. With WORD, only the lines with this word are measured.
+end with status 0, and none may take more than 2 seconds of the processor, and 0.2 seconds for each token after the
+first, since tokens are read one after the other. A line that is printed has the seconds of one run, those of the system
+with them, and its peak memory. With WORD, only the lines with this word are measured.
 """
 import base64
 import os
@@ -17,6 +18,8 @@ import tempfile
 MOST = 16777216
 COUNT = 32768
 SECONDS = 2
+TOKEN_SECONDS = 0.2
+TOKENS = 64
 STEPS = 96
 KEY = base64.urlsafe_b64encode(bytes(range(32))).rstrip(b"=").decode()
 OWN = '{"kty":"oct","kid":"own","k":"%s"}' % KEY
@@ -172,11 +175,11 @@ class Table:
         self.slow = 0
         print("| Command | What is at its limit | Seconds | Peak memory, MB |\n|---|---|---|---|")
 
-    def row(self, command, what, words, answer=""):
+    def row(self, command, what, words, answer="", tokens=1):
         seconds, memory = run(words, answer)
         if self.word not in f"{command} {what}":
             return
-        self.slow += seconds > SECONDS
+        self.slow += seconds > SECONDS + TOKEN_SECONDS * (tokens - 1)
         print(f"| `{command}` | {what} | {seconds:.2f} | {memory:.0f} |", flush=True)
 
 
@@ -205,11 +208,12 @@ def main():
                 write("file", made)
                 table.row(command, what, [tools if command == "wallet" else program, command, "file", f"issued.{form}"])
         write("file", lambda: wants("wide") + "}")
-        table.row("wallet", "64 tokens, each wide", [tools, "wallet", "file"] + ["issued.wide"] * 64)
+        words = [tools, "wallet", "file"] + ["issued.wide"] * TOKENS
+        table.row("wallet", f"{TOKENS} tokens, each wide", words, tokens=TOKENS)
         os.chdir("/")
     if table.slow:
-        sys.exit(f"limits.py: {table.slow} runs took more than {SECONDS} seconds")
-    print(f"each run took at most {SECONDS} seconds")
+        sys.exit(f"limits.py: {table.slow} runs took too long")
+    print(f"each run took at most {SECONDS} seconds, and {TOKEN_SECONDS} for each token after the first")
 
 
 if __name__ == "__main__":
