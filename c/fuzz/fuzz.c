@@ -11,6 +11,8 @@
  * much room answers the same. A call may take a second of the processor, and at one time 64 MiB of memory. Two calls
  * take more, by which c/fuzz/run.sh sees that this is told: slow and large.
  */
+/* for the clock of a thread */
+#define _POSIX_C_SOURCE 200809L
 #include "sdjwt.h"
 
 #include <sanitizer/allocator_interface.h>

@@ -81,15 +81,24 @@ def by_program(lines, answer, policy, program):
 
 
 def of_shared_keys(policy):
-    """A policy file without the algorithms of public keys in `algs`: a feed takes no token that is signed by one."""
+    """A policy file without the algorithms of public keys in `algs`: a feed takes no token that is signed by one.
+
+    A feed refuses `algs` in `binding`, which the package takes: what stands there becomes what the package refuses too.
+    """
     try:
         # -0 is to stay what the library refuses
         asked = json.loads(policy.decode(), parse_int=lambda digits: -0.0 if digits == "-0" else int(digits))
     except (ValueError, RecursionError):
         return policy
-    algs = asked.get("algs") if isinstance(asked, dict) else None
-    shared = [alg for alg in algs if not isinstance(alg, str) or alg in SHARED] if isinstance(algs, list) else algs
-    return policy if shared == algs else json.dumps({**asked, "algs": shared}).encode()
+    if not isinstance(asked, dict):
+        return policy
+    changed = {}
+    if isinstance(asked.get("algs"), list):
+        changed["algs"] = [alg for alg in asked["algs"] if not isinstance(alg, str) or alg in SHARED]
+    if isinstance(asked.get("binding"), dict) and "algs" in asked["binding"]:
+        changed["binding"] = {**asked["binding"], "algs": None}
+    return policy if all(asked[name] == value for name, value in changed.items()) else \
+        json.dumps({**asked, **changed}).encode()
 
 
 def by_package(lines, answer, policy, now):
