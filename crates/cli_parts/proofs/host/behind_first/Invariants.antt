@@ -4,4 +4,4 @@ use Rattle.cli_parts.proofs.host.behind_first.Given as goal
 
 -- the words that were pushed, and those that are left
 abbrev pub invariant-loop-word : goal.invariant-loop-word
-invariant-loop-word l = l.words.items ++ into_iter_items l.word-iterator ≡ drop 1 (into_iter_items l.args)
+invariant-loop-word l = l.words.items ++ into_iter_items l.word-iterator ≡ drop 1 (into_iter_items l.fn.args)
