@@ -235,10 +235,16 @@ static sdjwt_status call_slow(const input *given, uint8_t *out, size_t room, siz
     return SDJWT_USAGE;
 }
 
+/* A piece of memory, which the compiler can't leave out. */
+static char *reserved(size_t len) {
+    char *volatile made = malloc(len);
+    return made;
+}
+
 static sdjwt_status call_large(const input *given, uint8_t *out, size_t room, size_t *len) {
     (void)given, (void)out, (void)room, (void)len;
-    free(memset(malloc(MOST_MEMORY / 2), 1, 1));
-    char *half = memset(malloc(MOST_MEMORY / 2), 1, 1), *other = memset(malloc(MOST_MEMORY / 2 + 1), 1, 1);
+    free(reserved(MOST_MEMORY / 2));
+    char *half = reserved(MOST_MEMORY / 2), *other = reserved(MOST_MEMORY / 2 + 1);
     free(half);
     free(other);
     return SDJWT_USAGE;

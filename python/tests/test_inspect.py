@@ -205,6 +205,7 @@ def test_the_conditions_are_those_of_the_verdict_of_the_library(policy, number, 
         )
     shown = page(keys, token, "--policy", "policy.json")
     assert shown.count('<li class="fails">') == (number is not None) and shown.count('<span class="mark">') == 38
+    assert "`" not in shown.split("<script")[0] and "<code>nonce</code>" in shown
 
 
 def test_without_a_policy_there_is_no_verdict(keys):

@@ -8,6 +8,7 @@ from __future__ import annotations
 import base64
 import hashlib
 import html
+import re
 from collections.abc import Iterable
 from typing import Any
 
@@ -33,6 +34,7 @@ from sdjwt._program_files import json_text, visible
 
 # How many letters of a part or a value are on the page.
 _LETTERS_MAX = 6000
+_CODE = re.compile("`([^`]*)`")
 _STATES = {"holds": "✓", "fails": "✗", "not judged": "·", "not asked": "·"}
 
 
@@ -81,6 +83,11 @@ def _escaped(text: str) -> str:
     return html.escape(visible(text), quote=True)
 
 
+def _of_refusals(markdown: str) -> str:
+    """A paragraph of docs/REFUSALS.md in HTML, with its code as code."""
+    return _CODE.sub(r"<code>\1</code>", _escaped(plain(markdown)))
+
+
 def _cut(text: str) -> str:
     """A text in HTML, of which the end is left out if it is very long."""
     if len(text) <= _LETTERS_MAX:
@@ -110,7 +117,7 @@ def _outcome(verdict: Verdict) -> str:
         "p",
         "outcome refused",
         f"The library refuses the token: <code>{_escaped(verdict.refused.line)}</code>. "
-        f"{_escaped(plain(verdict.refused.explanation))}",
+        f"{_of_refusals(verdict.refused.explanation)}",
     )
 
 
@@ -319,7 +326,7 @@ def _judged(verdict: Verdict | None) -> str:
         return ""
     rows = "".join(_condition(condition) for condition in verdict.conditions)
     remedy = (
-        "" if verdict.refused is None else _tag("p", "said", f"What to do: {_escaped(plain(verdict.refused.remedy))}")
+        "" if verdict.refused is None else _tag("p", "said", f"What to do: {_of_refusals(verdict.refused.remedy)}")
     )
     return _section(
         "policy",
@@ -338,5 +345,5 @@ def _condition(condition: Condition) -> str:
     return (
         f'<li class="{state}"><span class="mark">{_STATES[condition.state]}</span> {condition.number} '
         f"<b>{condition.name}</b> <small>{condition.state}</small><p>Fails if: "
-        f"{_escaped(plain(condition.meaning))}</p></li>"
+        f"{_of_refusals(condition.meaning)}</p></li>"
     )
