@@ -14,14 +14,14 @@ pub returns-clause-passes : goal.returns-clause-passes
 returns-clause-passes g c =
     let good = g.K.Signatures.good c.args.checker.now in
     subst (λ o. OnOk c.audit_owned.result (PassesAudit o (alg_text c.args.alg) good c.args.text.now)) c.in_ok-owned.ensures
-    (subst (λ a. OnOk c.audit_owned.result (PassesAudit (order_of c.in_ok-owned.owned) a good c.args.text.now)) c.name.ensures
+    (subst (λ a. OnOk c.audit_owned.result (PassesAudit (order_of c.in_ok-owned.owned) a good c.args.text.now)) c.alg_name.ensures
     c.audit_owned.ensures.passes)
 
 pub returns-clause-refused : goal.returns-clause-refused
 returns-clause-refused g c =
     let good = g.K.Signatures.good c.args.checker.now in
     subst (λ o. IfErr c.audit_owned.result (IsAuditRefused o (alg_text c.args.alg) good c.args.text.now)) c.in_ok-owned.ensures
-    (subst (λ a. IfErr c.audit_owned.result (IsAuditRefused (order_of c.in_ok-owned.owned) a good c.args.text.now)) c.name.ensures
+    (subst (λ a. IfErr c.audit_owned.result (IsAuditRefused (order_of c.in_ok-owned.owned) a good c.args.text.now)) c.alg_name.ensures
     c.audit_owned.ensures.refused)
 
 pub returns-clause-counted : goal.returns-clause-counted
@@ -42,11 +42,11 @@ returns-clause-uncounted g c =
     subst (λ o. (error : _) → IsBeforeOpening error → FailsAudit o (alg_text c.args.alg) good c.args.text.now error → same)
     c.in_ok-owned.ensures
     (subst (λ a. (error : _) → IsBeforeOpening error → FailsAudit (order_of c.in_ok-owned.owned) a good c.args.text.now error → same)
-    c.name.ensures c.audit_owned.ensures.uncounted)
+    c.alg_name.ensures c.audit_owned.ensures.uncounted)
 
 pub returns-clause-unopened : goal.returns-clause-unopened
 returns-clause-unopened g c =
     let good = g.K.Signatures.good c.args.checker.now in
     let same = c.audit_owned.new.steps ≡ c.args.steps.now in
     subst (λ o. IsAuditUnopened o (alg_text c.args.alg) good c.args.text.now → same) c.in_ok-owned.ensures
-    (subst (λ a. IsAuditUnopened (order_of c.in_ok-owned.owned) a good c.args.text.now → same) c.name.ensures c.audit_owned.ensures.unopened)
+    (subst (λ a. IsAuditUnopened (order_of c.in_ok-owned.owned) a good c.args.text.now → same) c.alg_name.ensures c.audit_owned.ensures.unopened)

@@ -10,6 +10,6 @@ returns-in_ok-as_line-in-Err c =
     let memory : error ≢ Memory = search rules in
     let told = c.in_ok-as_line-in-Err.ensures ∙ ap line c.in_ok-refusal_line-in-Err.ensures in
     record {
-      replies = λ order_file is. says_no order_file c.args.token_file.now (string_bytes c.in_ok-as_line-in-Err.field-0) c.args.asked c.alg_name.result.now error is c.alg_name.ensures memory c.in-Err.ensures.refused told;
+      replies = λ order_file is. says_no order_file c.args.token_file.now (string_bytes c.in_ok-as_line-in-Err.field-0) c.args.asked c.alg_name.result error is c.alg_name.ensures memory c.in-Err.ensures.refused told;
       read = tt;
     }
