@@ -14,5 +14,5 @@ returns-in-Some c =
     let none : c.args.signature.now ≡ [] → ⊥ = λ empty. let both : true ≡ false = subst (λ (bytes : List ℕ). (length bytes == 0) ≡ false) empty some in cc both in
     let kept : Misused → ⊥ = ⊎_elim none c.in-Some.ensures.a_name in
     subst Named c.in-Some.ensures.named
-    (handed Misused kept (SignsToken c.args.order.now c.in-Some.alg.now c.args.seed.now c.args.signature.now) c.args.room.now c.hand.new.room c.hand.new.len c.number-in-Some.result c.hand.result c.number-in-Some.ensures
+    (handed Misused kept (SignsToken c.args.order.now c.in-Some.alg c.args.seed.now c.args.signature.now) c.args.room.now c.hand.new.room c.hand.new.len c.number-in-Some.result c.hand.result c.number-in-Some.ensures
     c.signed_token.result c.signed_token.ensures.gives c.signed_token.ensures.refuses c.signed_token.ensures.unreadable c.signed_token.ensures.read c.hand.ensures)
