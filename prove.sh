@@ -83,7 +83,7 @@ failed() {
 share
 names=$(list)
 all=$(echo "$names" | wc -l)
-echo "Proving the $all crates of $crate, one after the other, each by $jobs processes. From nothing this takes 15 to"
+echo "Proving the $all crates of $crate, one after the other, each by $jobs processes. From nothing this takes up to"
 echo "40 minutes on four cores; what was proved on this machine before is not proved again."
 : >"$log"
 done=0

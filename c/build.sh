@@ -2,7 +2,7 @@
 # Builds sdjwt for C into the folder out/ beside this file: lib/libsdjwt.a, lib/libsdjwt.so, lib/pkgconfig/sdjwt.pc,
 # include/sdjwt.h, and a record of what they were made of and whether they are proved. What an earlier run left there is
 # removed first. The crate crates/sdjwt_c is proved, with what it stands on, where that was not done before: from
-# nothing this takes 20 to 40 minutes on four free cores.
+# nothing this takes up to 40 minutes on four free cores.
 #
 #   sh c/build.sh                  builds
 #   sh c/build.sh --prefix DIR     builds, and copies it below DIR
